@@ -1,0 +1,3 @@
+pub mod InMemory
+pub mod Lists
+pub mod Streams
