@@ -1,0 +1,94 @@
+-- Which works are out, by the calls and the replies alone, and when a wait makes sense. Own.
+use Rattle.std.specs.Prelude.{ℕ, ◌<◌, List, [], ◌∷◌, ◌++◌, ◌≡◌, ◌≢◌, length, drop, filter, fold, Bool, true, false, not, ◌==◌, Option, Some, None, is_some, ◌⊎◌, Contains}
+use Rattle.std.specs.List.{list_any, filter_map, flat_map, zip}
+use Rattle.ak_labor.specs.declared.work.Work.{Work}
+use Rattle.ak_labor.specs.declared.work.Outcome.{Outcome}
+use Rattle.ak_labor.specs.declared.ask.Ask.{Ask}
+use Rattle.ak_labor.specs.declared.ask.Ask.TheVariants as ask
+use Rattle.ak_labor.specs.Calls.{Reply, Pairs, Granted, Done}
+use Rattle.ak_labor.specs.Value.{value_of}
+
+-- a work that was handed in, under its number, perhaps for a helper
+pub record Handed : Type 0 where
+  pub id : ℕ
+  pub work : Work
+  pub helper : Option ℕ
+
+abbrev pub handed_by : Ask → Option Handed
+handed_by (ask.Submit id work helper) = Some (record { id = id; work = work; helper = helper })
+handed_by ask.Drain = None
+handed_by (ask.HelperNew h) = None
+handed_by (ask.HelperEnd h) = None
+handed_by ask.Close = None
+
+abbrev pub pairs_in : Reply → List (ℕ × Outcome)
+pairs_in (Pairs pairs) = pairs
+pairs_in (Granted granted) = []
+pairs_in Done = []
+
+abbrev pub is_pair_of : ℕ → ℕ × Outcome → Bool
+is_pair_of id pair = pair.0 == id
+
+-- whether no reply has brought the work
+abbrev pub is_out : List Reply → Handed → Bool
+is_out replies handed = not (list_any (is_pair_of handed.id) (flat_map pairs_in replies))
+
+-- the works that were handed in and that no reply has brought
+abbrev pub outstanding : List Ask → List Reply → List Handed
+outstanding asked replies = filter (is_out replies) (filter_map handed_by asked)
+
+abbrev pub is_other : ℕ → Handed → Bool
+is_other id handed = not (handed.id == id)
+
+-- each pair is one of these works with its value, and no work stands in two pairs
+abbrev pub Arrive : List Handed → List (ℕ × Outcome) → Type 0
+Arrive works [] = Unit {0}
+Arrive works (pair ∷ pairs) =
+    ((work : Work) × (helper : Option ℕ) × Contains works (record { id = pair.0; work = work; helper = helper }) × (pair.1 ≡ value_of work))
+    × Arrive (filter (is_other pair.0) works) pairs
+
+abbrev pub is_other_helper : ℕ → ℕ → Bool
+is_other_helper ended helper = not (helper == ended)
+
+-- the helpers that are granted and not ended, after one more call with its reply
+abbrev pub helped_by : List ℕ → Ask → Reply → List ℕ
+helped_by active (ask.HelperNew h) (Granted true) = active ++ h ∷ []
+helped_by active (ask.HelperEnd h) reply = filter (is_other_helper h) active
+helped_by active a reply = active
+
+abbrev pub helped : List ℕ → Ask × Reply → List ℕ
+helped active call = helped_by active call.0 call.1
+
+-- the helpers that are granted and not ended
+abbrev pub active_helpers : List Ask → List Reply → List ℕ
+active_helpers asked replies = fold helped [] (zip asked replies)
+
+abbrev pub is_for_helper : Handed → Bool
+is_for_helper handed = is_some handed.helper
+
+-- some work is out, and a thread can do one that is: it is a helper's, or not every thread is a helper's
+abbrev pub CanWait : ℕ → List Ask → List Reply → Type 0
+CanWait threads asked replies =
+    (outstanding asked replies ≢ [])
+    × ((list_any is_for_helper (outstanding asked replies) ≡ true) ⊎ (length (active_helpers asked replies) < threads))
+
+abbrev pub is_drain : Ask → Bool
+is_drain (ask.Submit id work helper) = false
+is_drain ask.Drain = true
+is_drain (ask.HelperNew h) = false
+is_drain (ask.HelperEnd h) = false
+is_drain ask.Close = false
+
+-- the place in the list of calls at which the scheduler waited last
+abbrev pub last_wait : List ℕ → Option ℕ
+last_wait [] = None
+last_wait (n ∷ []) = Some n
+last_wait (n ∷ m ∷ waits) = last_wait (m ∷ waits)
+
+abbrev pub IsUndrainedFrom : List Ask → Option ℕ → Type 0
+IsUndrainedFrom asked None = ⊥
+IsUndrainedFrom asked (Some n) = list_any is_drain (drop n asked) ≡ false
+
+-- the scheduler has waited, and has not drained since
+abbrev pub HasWaited : List Ask → List ℕ → Type 0
+HasWaited asked waits = IsUndrainedFrom asked (last_wait waits)

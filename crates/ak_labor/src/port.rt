@@ -1,0 +1,78 @@
+//! The scheduler's way to the pool.
+
+ghost use Rattle.std.specs.Prelude.{List, ℕ, ◌≡◌, ◌≢◌, ◌≤◌, ◌<◌, ◌⊎◌, [], ◌∷◌, ◌++◌, length, OnOk, OnErr, IfOk};
+ghost use Rattle.ak_labor.specs.declared.ask.Ask.{Ask};
+ghost use Rattle.ak_labor.specs.Calls.{Reply, Pairs, Done, IsAsked, IsOpen, IsFault};
+ghost use Rattle.ak_labor.specs.Waits.{outstanding, Arrive, CanWait, HasWaited};
+
+use crate::ask::Ask;
+use crate::work::Arrivals;
+use std::alloc::AllocError;
+
+/// Why a call of a port failed: by the port's own fault, or for want of memory.
+#[derive(Debug, Drop)]
+pub enum PortError<F> {
+    Fault(F),
+    NoMemory,
+}
+
+impl<F: Drop> From<AllocError> for PortError<F> {
+    ghost use Rattle.std.specs.Prelude.{◌≡◌};
+    ghost use Rattle.ak_labor.specs.declared.port.PortError.TheVariants.{NoMemory};
+
+    ghost from_gives = { λ _ e. e ≡ NoMemory };
+
+    fn from(_error: AllocError) -> PortError<F> {
+        PortError::NoMemory
+    }
+}
+
+/// A pool as its scheduler sees it. Own; after the outline of Async's thread pool.
+///
+/// Each call asks the pool once and gets its reply. After the port's own fault the call stands in the list of calls
+/// and has no reply; after want of memory it was not made. The number of threads never changes.
+pub trait Port {
+    type Fault: Drop;
+
+    /// How many threads the pool has.
+    ghost threads: { Self → ℕ };
+    /// The calls that were made, oldest first.
+    ghost asked: { Self → List Ask };
+    /// The replies to them, oldest first.
+    ghost replies: { Self → List Reply };
+    /// A number that never grows: each drain behind a wait that brings nothing makes it smaller.
+    ghost turns: { Self → ℕ };
+    /// For each wait, oldest first, how many calls were made before it.
+    ghost waits: { Self → List ℕ };
+
+    /// Fetches the finished works: `into` holds the reply's pairs and nothing else. Nothing is known of `into` after
+    /// an error.
+    fn drain(&mut self, into: &mut Arrivals) -> Result<(), PortError<Self::Fault>>
+        requires { IsOpen (asked self.old) (replies self.old) }
+        ensures asked { IsAsked Ask.Drain (λ _. Pairs into.new) (asked self.old) (asked self.new) (replies self.old) (replies self.new) result }
+        ensures arrive { OnOk result (Arrive (outstanding (asked self.old) (replies self.old)) into.new) }
+        ensures woken { OnOk result (HasWaited (asked self.old) (waits self.old) → (into.new ≢ []) ⊎ (turns self.new < turns self.old)) }
+        ensures threads { threads self.new ≡ threads self.old }
+        ensures turns { turns self.new ≤ turns self.old }
+        ensures waits { waits self.new ≡ waits self.old };
+
+    /// Asks nothing more.
+    fn close(&mut self) -> Result<(), PortError<Self::Fault>>
+        requires { IsOpen (asked self.old) (replies self.old) }
+        ensures asked { IsAsked Ask.Close (λ _. Done) (asked self.old) (asked self.new) (replies self.old) (replies self.new) result }
+        ensures threads { threads self.new ≡ threads self.old }
+        ensures turns { turns self.new ≤ turns self.old }
+        ensures waits { waits self.new ≡ waits self.old };
+
+    /// Waits until a finished work can be fetched. It is no call of the pool, and never answers a fault.
+    fn wait(&mut self) -> Result<(), PortError<Self::Fault>>
+        requires open { IsOpen (asked self.old) (replies self.old) }
+        requires some { CanWait (threads self.old) (asked self.old) (replies self.old) }
+        ensures no_fault { IsFault result → ⊥ }
+        ensures ok { OnOk result (waits self.new ≡ waits self.old ++ length (asked self.old) ∷ []) }
+        ensures err { OnErr result (waits self.new ≡ waits self.old) }
+        ensures asked { asked self.new ≡ asked self.old }
+        ensures replies { replies self.new ≡ replies self.old }
+        ensures threads { threads self.new ≡ threads self.old }
+        ensures turns { turns self.new ≤ turns self.old };
+}
