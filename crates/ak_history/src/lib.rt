@@ -1,0 +1,5 @@
+//! The history of a pool: its events and their text.
+#![tactic(auto)]
+
+pub mod event;
+pub mod text;

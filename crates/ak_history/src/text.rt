@@ -1,0 +1,431 @@
+//! The text of a history.
+
+ghost use Rattle.std.specs.Prelude.{◌≡◌, ◌≤◌, ◌++◌, ◌↔◌, [], ◌∷◌, OnOk, OnErr, IsTrue, flat_map};
+ghost use Rattle.ak_base.specs.Streams.{Rose, grown, TookBeginning, Passes};
+ghost use Rattle.ak_history.specs.Text.{history_text, event_text, idle_text, id_text};
+
+use crate::event::{Event, History};
+use ak_base::buffer::Buffer;
+use ak_base::number::{HelperNo, ThreadNo, WorkNo};
+use ak_base::sink::{Sink, WriteFailed};
+use ak_labor::work::{Outcome, Work};
+use ak_print::piece::Piece::{Count, Num, Text};
+use ak_print::piece::{Piece, put_pieces};
+
+/// Writes the text of the history, with one line for each run of drains that bring nothing. It takes no memory.
+///
+/// # Errors
+///
+/// `WriteFailed`, only where the sink's count of faults rose. A beginning of the text was then taken.
+pub fn write_history<K: Sink>(h: &History, sink: &mut K) -> Result<(), WriteFailed>
+    ensures takes { OnOk result (K.taken sink.new ≡ grown (K.taken sink.old) (history_text h.now)) }
+    ensures begins { OnErr result (TookBeginning (K.taken sink.old) (K.taken sink.new) (history_text h.now)) }
+    ensures never_falls { K.faults sink.old ≤ K.faults sink.new }
+    ensures cause { OnErr result (Rose (K.faults sink.old) (K.faults sink.new)) }
+{
+    let mut buffer = Buffer::new();
+    put_history(h, &mut buffer, sink)?;
+    buffer.flush(sink)?;
+    Ok(())
+}
+
+/// Puts the text of the history behind what waits. It takes no memory.
+///
+/// # Errors
+///
+/// `WriteFailed`, only where the sink's count of faults rose. A beginning of what waited and of the text was then
+/// taken, and the rest is lost.
+pub fn put_history<K: Sink>(
+    h: &History,
+    buffer: &mut Buffer,
+    sink: &mut K,
+) -> Result<(), WriteFailed>
+    ensures passes { OnOk result
+        (Passes (K.taken sink.old) (K.taken sink.new) buffer.old buffer.new (history_text h.now)) }
+    ensures begins { OnErr result
+        (TookBeginning (K.taken sink.old) (K.taken sink.new) (buffer.old ++ history_text h.now)) }
+    ensures lost { OnErr result (buffer.new ≡ []) }
+    ensures never_falls { K.faults sink.old ≤ K.faults sink.new }
+    ensures cause { OnErr result (Rose (K.faults sink.old) (K.faults sink.new)) }
+{
+    put_events(h.as_slice(), buffer, sink)
+}
+
+// Puts the lines of events behind what waits.
+fn put_events<K: Sink>(
+    events: &[Event],
+    buffer: &mut Buffer,
+    sink: &mut K,
+) -> Result<(), WriteFailed>
+    ensures passes { OnOk result
+        (Passes (K.taken sink.old) (K.taken sink.new) buffer.old buffer.new (history_text events.now)) }
+    ensures begins { OnErr result
+        (TookBeginning (K.taken sink.old) (K.taken sink.new) (buffer.old ++ history_text events.now)) }
+    ensures lost { OnErr result (buffer.new ≡ []) }
+    ensures never_falls { K.faults sink.old ≤ K.faults sink.new }
+    ensures cause { OnErr result (Rose (K.faults sink.old) (K.faults sink.new)) }
+{
+    let mut idle = 0;
+    for event in events {
+        if is_idle(event) {
+            idle += 1;
+        } else {
+            put_after_idle(idle, event, buffer, sink)?;
+            idle = 0;
+        }
+    }
+    put_idle(idle, buffer, sink)?;
+    Ok(())
+}
+
+// Whether an event is a drain that brings nothing.
+fn is_idle(event: &Event) -> bool
+    ensures { IsTrue result ↔ (event.now ≡ Event.Drain []) }
+{
+    match event {
+        Event::Drain { ids } => ids.len() == 0,
+        _ => false,
+    }
+}
+
+// Puts the line of a run of empty drains, if there are any, and then that of an event behind what waits.
+fn put_after_idle<K: Sink>(
+    idle: u64,
+    event: &Event,
+    buffer: &mut Buffer,
+    sink: &mut K,
+) -> Result<(), WriteFailed>
+    ensures passes { OnOk result
+        (Passes (K.taken sink.old) (K.taken sink.new) buffer.old buffer.new (idle_text idle ++ event_text event.now)) }
+    ensures begins { OnErr result
+        (TookBeginning (K.taken sink.old) (K.taken sink.new) (buffer.old ++ (idle_text idle ++ event_text event.now))) }
+    ensures lost { OnErr result (buffer.new ≡ []) }
+    ensures never_falls { K.faults sink.old ≤ K.faults sink.new }
+    ensures cause { OnErr result (Rose (K.faults sink.old) (K.faults sink.new)) }
+{
+    put_idle(idle, buffer, sink)?;
+    put_event(event, buffer, sink)?;
+    Ok(())
+}
+
+// Puts the line of a run of empty drains, if there are any, behind what waits.
+fn put_idle<K: Sink>(idle: u64, buffer: &mut Buffer, sink: &mut K) -> Result<(), WriteFailed>
+    ensures passes { OnOk result
+        (Passes (K.taken sink.old) (K.taken sink.new) buffer.old buffer.new (idle_text idle)) }
+    ensures begins { OnErr result
+        (TookBeginning (K.taken sink.old) (K.taken sink.new) (buffer.old ++ idle_text idle)) }
+    ensures lost { OnErr result (buffer.new ≡ []) }
+    ensures never_falls { K.faults sink.old ≤ K.faults sink.new }
+    ensures cause { OnErr result (Rose (K.faults sink.old) (K.faults sink.new)) }
+{
+    match idle {
+        0 => put_pieces(&[], buffer, sink),
+        _ => put_pieces(&[Text("idle "), Count(idle), Text("\n")], buffer, sink),
+    }
+}
+
+// Puts an event's line behind what waits.
+fn put_event<K: Sink>(event: &Event, buffer: &mut Buffer, sink: &mut K) -> Result<(), WriteFailed>
+    ensures passes { OnOk result
+        (Passes (K.taken sink.old) (K.taken sink.new) buffer.old buffer.new (event_text event.now)) }
+    ensures begins { OnErr result
+        (TookBeginning (K.taken sink.old) (K.taken sink.new) (buffer.old ++ event_text event.now)) }
+    ensures lost { OnErr result (buffer.new ≡ []) }
+    ensures never_falls { K.faults sink.old ≤ K.faults sink.new }
+    ensures cause { OnErr result (Rose (K.faults sink.old) (K.faults sink.new)) }
+{
+    match event {
+        Event::Submit { id, work, helper } => put_submit(*id, *work, *helper, buffer, sink),
+        Event::Start { thread, id } => put_pieces(
+            &[
+                Text("start "),
+                Piece::number(*thread),
+                Text(" "),
+                Piece::number(*id),
+                Text("\n"),
+            ],
+            buffer,
+            sink,
+        ),
+        Event::Finish {
+            thread,
+            id,
+            outcome,
+        } => put_finish(*thread, *id, *outcome, buffer, sink),
+        Event::Drain { ids } => put_drain(ids.as_slice(), buffer, sink),
+        Event::HelperNew { no, answer } => put_answer(*no, *answer, buffer, sink),
+        Event::HelperEnd { no } => put_pieces(
+            &[Text("helperend "), Piece::number(*no), Text("\n")],
+            buffer,
+            sink,
+        ),
+        Event::Close => put_pieces(&[Text("close\n")], buffer, sink),
+    }
+}
+
+// Puts the line of a work that is handed in behind what waits.
+fn put_submit<K: Sink>(
+    id: WorkNo,
+    work: Work,
+    helper: Option<HelperNo>,
+    buffer: &mut Buffer,
+    sink: &mut K,
+) -> Result<(), WriteFailed>
+    ensures passes { OnOk result (Passes (K.taken sink.old) (K.taken sink.new) buffer.old buffer.new
+        (event_text (Event.Submit id work helper))) }
+    ensures begins { OnErr result (TookBeginning (K.taken sink.old) (K.taken sink.new)
+        (buffer.old ++ event_text (Event.Submit id work helper))) }
+    ensures lost { OnErr result (buffer.new ≡ []) }
+    ensures never_falls { K.faults sink.old ≤ K.faults sink.new }
+    ensures cause { OnErr result (Rose (K.faults sink.old) (K.faults sink.new)) }
+{
+    match helper {
+        None => put_pieces(
+            &[
+                Text("submit "),
+                Piece::number(id),
+                Text(" general "),
+                Piece::kind(work.kind),
+                Text(" "),
+                Num(work.num),
+                Text("\n"),
+            ],
+            buffer,
+            sink,
+        ),
+        Some(helper) => put_pieces(
+            &[
+                Text("submit "),
+                Piece::number(id),
+                Text(" helper "),
+                Piece::number(helper),
+                Text(" "),
+                Piece::kind(work.kind),
+                Text(" "),
+                Num(work.num),
+                Text("\n"),
+            ],
+            buffer,
+            sink,
+        ),
+    }
+}
+
+// Puts the line of a work that is ended behind what waits.
+fn put_finish<K: Sink>(
+    thread: ThreadNo,
+    id: WorkNo,
+    outcome: Outcome,
+    buffer: &mut Buffer,
+    sink: &mut K,
+) -> Result<(), WriteFailed>
+    ensures passes { OnOk result (Passes (K.taken sink.old) (K.taken sink.new) buffer.old buffer.new
+        (event_text (Event.Finish thread id outcome))) }
+    ensures begins { OnErr result (TookBeginning (K.taken sink.old) (K.taken sink.new)
+        (buffer.old ++ event_text (Event.Finish thread id outcome))) }
+    ensures lost { OnErr result (buffer.new ≡ []) }
+    ensures never_falls { K.faults sink.old ≤ K.faults sink.new }
+    ensures cause { OnErr result (Rose (K.faults sink.old) (K.faults sink.new)) }
+{
+    match outcome {
+        Outcome::Good(num) => put_pieces(
+            &[
+                Text("finish "),
+                Piece::number(thread),
+                Text(" "),
+                Piece::number(id),
+                Text(" good "),
+                Num(num),
+                Text("\n"),
+            ],
+            buffer,
+            sink,
+        ),
+        Outcome::Bad(num) => put_pieces(
+            &[
+                Text("finish "),
+                Piece::number(thread),
+                Text(" "),
+                Piece::number(id),
+                Text(" bad "),
+                Num(num),
+                Text("\n"),
+            ],
+            buffer,
+            sink,
+        ),
+    }
+}
+
+// Puts the line of a helper's answer behind what waits.
+fn put_answer<K: Sink>(
+    helper: HelperNo,
+    answer: Option<ThreadNo>,
+    buffer: &mut Buffer,
+    sink: &mut K,
+) -> Result<(), WriteFailed>
+    ensures passes { OnOk result (Passes (K.taken sink.old) (K.taken sink.new) buffer.old buffer.new
+        (event_text (Event.HelperNew helper answer))) }
+    ensures begins { OnErr result (TookBeginning (K.taken sink.old) (K.taken sink.new)
+        (buffer.old ++ event_text (Event.HelperNew helper answer))) }
+    ensures lost { OnErr result (buffer.new ≡ []) }
+    ensures never_falls { K.faults sink.old ≤ K.faults sink.new }
+    ensures cause { OnErr result (Rose (K.faults sink.old) (K.faults sink.new)) }
+{
+    match answer {
+        None => put_pieces(
+            &[Text("helper "), Piece::number(helper), Text(" refused\n")],
+            buffer,
+            sink,
+        ),
+        Some(thread) => put_pieces(
+            &[
+                Text("helper "),
+                Piece::number(helper),
+                Text(" granted "),
+                Piece::number(thread),
+                Text("\n"),
+            ],
+            buffer,
+            sink,
+        ),
+    }
+}
+
+// Puts the line of a drain behind what waits.
+fn put_drain<K: Sink>(ids: &[WorkNo], buffer: &mut Buffer, sink: &mut K) -> Result<(), WriteFailed>
+    ensures passes { OnOk result (Passes (K.taken sink.old) (K.taken sink.new) buffer.old buffer.new
+        (event_text (Event.Drain ids.now))) }
+    ensures begins { OnErr result (TookBeginning (K.taken sink.old) (K.taken sink.new)
+        (buffer.old ++ event_text (Event.Drain ids.now))) }
+    ensures lost { OnErr result (buffer.new ≡ []) }
+    ensures never_falls { K.faults sink.old ≤ K.faults sink.new }
+    ensures cause { OnErr result (Rose (K.faults sink.old) (K.faults sink.new)) }
+{
+    buffer.put(sink, b"drain")?;
+    put_ids(ids, buffer, sink)?;
+    buffer.put(sink, b"\n")?;
+    Ok(())
+}
+
+// Puts the numbers, each after a space, behind what waits.
+fn put_ids<K: Sink>(ids: &[WorkNo], buffer: &mut Buffer, sink: &mut K) -> Result<(), WriteFailed>
+    ensures passes { OnOk result (Passes (K.taken sink.old) (K.taken sink.new) buffer.old buffer.new
+        (flat_map id_text ids.now)) }
+    ensures begins { OnErr result (TookBeginning (K.taken sink.old) (K.taken sink.new)
+        (buffer.old ++ flat_map id_text ids.now)) }
+    ensures lost { OnErr result (buffer.new ≡ []) }
+    ensures never_falls { K.faults sink.old ≤ K.faults sink.new }
+    ensures cause { OnErr result (Rose (K.faults sink.old) (K.faults sink.new)) }
+{
+    for id in ids {
+        put_id(*id, buffer, sink)?;
+    }
+    Ok(())
+}
+
+// Puts a number behind a space behind what waits.
+fn put_id<K: Sink>(id: WorkNo, buffer: &mut Buffer, sink: &mut K) -> Result<(), WriteFailed>
+    ensures passes { OnOk result (Passes (K.taken sink.old) (K.taken sink.new) buffer.old buffer.new
+        (id_text id)) }
+    ensures begins { OnErr result (TookBeginning (K.taken sink.old) (K.taken sink.new)
+        (buffer.old ++ id_text id)) }
+    ensures lost { OnErr result (buffer.new ≡ []) }
+    ensures never_falls { K.faults sink.old ≤ K.faults sink.new }
+    ensures cause { OnErr result (Rose (K.faults sink.old) (K.faults sink.new)) }
+{
+    put_pieces(&[Text(" "), Piece::number(id)], buffer, sink)
+}
+
+#[cfg(test)]
+mod tests {
+    use super::*;
+    use ak_base::list::{Items, NoMemory};
+    use ak_base::memory::MemSink;
+    use ak_labor::work::WorkKind;
+
+    #[test]
+    fn a_run_of_empty_drains_is_one_line(rt: HostRuntime) -> Result<(), NoMemory> {
+        let events = vec![in rt.alloc();
+            Event::Drain {
+                ids: Items::make(rt.alloc())
+            },
+            Event::Drain {
+                ids: Items::make(rt.alloc())
+            },
+            Event::Close,
+        ]?;
+        let mut sink = MemSink::make(rt.alloc(), 100, 100, Vec::new(rt.alloc()))?;
+        assert_eq!(rt; write_history(&Items::from_vec(events), &mut sink), Ok(()));
+        assert_eq!(rt; sink.taken(), b"idle 2\nclose\n".as_slice());
+        Ok(())
+    }
+
+    #[test]
+    fn works_of_helpers_are_written(rt: HostRuntime) -> Result<(), NoMemory> {
+        let (zero, one) = (WorkNo::new(0), WorkNo::new(1));
+        let thread = ThreadNo::new(0);
+        let helper = HelperNo::new(0);
+        let square = WorkKind::Square;
+        let events = vec![in rt.alloc();
+            Event::Drain {
+                ids: Items::make(rt.alloc())
+            },
+            Event::HelperNew {
+                no: helper,
+                answer: Some(thread)
+            },
+            Event::HelperNew {
+                no: HelperNo::new(1),
+                answer: None
+            },
+            Event::Submit {
+                id: zero,
+                work: Work {
+                    kind: square,
+                    num: 3
+                },
+                helper: None
+            },
+            Event::Submit {
+                id: one,
+                work: Work {
+                    kind: square,
+                    num: 4
+                },
+                helper: Some(helper)
+            },
+            Event::HelperEnd { no: helper },
+            Event::Start { thread, id: one },
+            Event::Finish {
+                thread,
+                id: one,
+                outcome: Outcome::Good(16)
+            },
+            Event::Drain {
+                ids: Items::from_vec(vec![in rt.alloc(); one, zero]?)
+            },
+            Event::Drain {
+                ids: Items::make(rt.alloc())
+            },
+        ]?;
+        let mut sink = MemSink::make(rt.alloc(), 300, 7, Vec::new(rt.alloc()))?;
+        assert_eq!(rt; write_history(&Items::from_vec(events), &mut sink), Ok(()));
+        assert_eq!(rt;
+            sink.taken(),
+            b"idle 1\nhelper 0 granted 0\nhelper 1 refused\nsubmit 0 general square 3\nsubmit 1 helper 0 square 4\nhelperend 0\nstart 0 1\nfinish 0 1 good 16\ndrain 1 0\nidle 1\n".as_slice()
+        );
+        Ok(())
+    }
+
+    #[test]
+    fn a_fault_leaves_a_beginning(rt: HostRuntime) -> Result<(), NoMemory> {
+        let history = Items::from_vec(vec![in rt.alloc(); Event::Close]?);
+        for k in 0..6 {
+            let mut sink = MemSink::make(rt.alloc(), 100, 1, vec![in rt.alloc(); k]?)?;
+            assert_eq!(rt; write_history(&history, &mut sink), Err(WriteFailed));
+            assert_eq!(rt; sink.taken(), &b"close\n"[..k as usize]);
+        }
+        Ok(())
+    }
+}

@@ -1,0 +1,329 @@
+//! The text of a trace.
+
+ghost use Rattle.std.specs.Prelude.{◌≡◌, ◌≤◌, ◌++◌, [], OnOk, OnErr};
+ghost use Rattle.ak_base.specs.Streams.{Rose, grown, TookBeginning, Passes};
+ghost use Rattle.ak_trace.specs.Text.{entry_text, trace_text};
+
+use crate::entry::{Ending, Entry, Trace};
+use ak_base::buffer::Buffer;
+use ak_base::number::WorkNo;
+use ak_base::sink::{Sink, WriteFailed};
+use ak_labor::work::Outcome;
+use ak_print::piece::Piece::{Count, Num, Text};
+use ak_print::piece::{Piece, put_pieces};
+
+/// Writes the text of the trace, a line for each entry. It takes no memory.
+///
+/// # Errors
+///
+/// `WriteFailed`, only where the sink's count of faults rose. A beginning of the text was then taken.
+pub fn write_trace<K: Sink>(t: &Trace, sink: &mut K) -> Result<(), WriteFailed>
+    ensures takes { OnOk result (K.taken sink.new ≡ grown (K.taken sink.old) (trace_text t.now)) }
+    ensures begins { OnErr result (TookBeginning (K.taken sink.old) (K.taken sink.new) (trace_text t.now)) }
+    ensures never_falls { K.faults sink.old ≤ K.faults sink.new }
+    ensures cause { OnErr result (Rose (K.faults sink.old) (K.faults sink.new)) }
+{
+    let mut buffer = Buffer::new();
+    put_trace(t, &mut buffer, sink)?;
+    buffer.flush(sink)?;
+    Ok(())
+}
+
+/// Puts the text of the trace behind what waits. It takes no memory.
+///
+/// # Errors
+///
+/// `WriteFailed`, only where the sink's count of faults rose. A beginning of what waited and of the text was then
+/// taken, and the rest is lost.
+pub fn put_trace<K: Sink>(t: &Trace, buffer: &mut Buffer, sink: &mut K) -> Result<(), WriteFailed>
+    ensures passes { OnOk result
+        (Passes (K.taken sink.old) (K.taken sink.new) buffer.old buffer.new (trace_text t.now)) }
+    ensures begins { OnErr result
+        (TookBeginning (K.taken sink.old) (K.taken sink.new) (buffer.old ++ trace_text t.now)) }
+    ensures lost { OnErr result (buffer.new ≡ []) }
+    ensures never_falls { K.faults sink.old ≤ K.faults sink.new }
+    ensures cause { OnErr result (Rose (K.faults sink.old) (K.faults sink.new)) }
+{
+    put_entries(t.as_slice(), buffer, sink)
+}
+
+// Puts the lines of entries behind what waits.
+fn put_entries<K: Sink>(
+    entries: &[Entry],
+    buffer: &mut Buffer,
+    sink: &mut K,
+) -> Result<(), WriteFailed>
+    ensures passes { OnOk result
+        (Passes (K.taken sink.old) (K.taken sink.new) buffer.old buffer.new (trace_text entries.now)) }
+    ensures begins { OnErr result
+        (TookBeginning (K.taken sink.old) (K.taken sink.new) (buffer.old ++ trace_text entries.now)) }
+    ensures lost { OnErr result (buffer.new ≡ []) }
+    ensures never_falls { K.faults sink.old ≤ K.faults sink.new }
+    ensures cause { OnErr result (Rose (K.faults sink.old) (K.faults sink.new)) }
+{
+    for entry in entries {
+        put_entry(*entry, buffer, sink)?;
+    }
+    Ok(())
+}
+
+// Puts an entry's line behind what waits.
+fn put_entry<K: Sink>(entry: Entry, buffer: &mut Buffer, sink: &mut K) -> Result<(), WriteFailed>
+    ensures passes { OnOk result
+        (Passes (K.taken sink.old) (K.taken sink.new) buffer.old buffer.new (entry_text entry)) }
+    ensures begins { OnErr result
+        (TookBeginning (K.taken sink.old) (K.taken sink.new) (buffer.old ++ entry_text entry)) }
+    ensures lost { OnErr result (buffer.new ≡ []) }
+    ensures never_falls { K.faults sink.old ≤ K.faults sink.new }
+    ensures cause { OnErr result (Rose (K.faults sink.old) (K.faults sink.new)) }
+{
+    match entry {
+        Entry::Cycle => put_pieces(&[Text("cycle\n")], buffer, sink),
+        Entry::Enq { job, low } => put_pieces(
+            &[
+                Text("enq "),
+                Piece::job(job),
+                Text(if low { " low\n" } else { " normal\n" }),
+            ],
+            buffer,
+            sink,
+        ),
+        Entry::Job { job } => put_pieces(
+            &[Text("job "), Piece::job(job), Text("\n")],
+            buffer,
+            sink,
+        ),
+        Entry::Fill { ivar, num } => put_pieces(
+            &[
+                Text("fill "),
+                Piece::number(ivar),
+                Text(" "),
+                Num(num),
+                Text("\n"),
+            ],
+            buffer,
+            sink,
+        ),
+        Entry::Join { result, right } => put_pieces(
+            &[
+                Text("join "),
+                Piece::number(result),
+                Text(" "),
+                Piece::number(right),
+                Text("\n"),
+            ],
+            buffer,
+            sink,
+        ),
+        Entry::Print { num } => put_pieces(&[Text("print "), Num(num), Text("\n")], buffer, sink),
+        Entry::Monitor { mon, parent } => put_pieces(
+            &[
+                Text("monitor "),
+                Piece::number(mon),
+                Text(" "),
+                Piece::number(parent),
+                Text("\n"),
+            ],
+            buffer,
+            sink,
+        ),
+        Entry::Detach { mon } => put_pieces(
+            &[Text("detach "), Piece::number(mon), Text("\n")],
+            buffer,
+            sink,
+        ),
+        Entry::Error { num, mon } => put_pieces(
+            &[
+                Text("error "),
+                Num(num),
+                Text(" "),
+                Piece::number(mon),
+                Text("\n"),
+            ],
+            buffer,
+            sink,
+        ),
+        Entry::Caught { mon } => put_pieces(
+            &[Text("caught "), Piece::number(mon), Text("\n")],
+            buffer,
+            sink,
+        ),
+        Entry::Rest { num } => put_pieces(&[Text("rest "), Num(num), Text("\n")], buffer, sink),
+        Entry::Unhandled { num } => put_pieces(
+            &[Text("unhandled "), Num(num), Text("\n")],
+            buffer,
+            sink,
+        ),
+        Entry::Submit { work, kind, num } => put_pieces(
+            &[
+                Text("submit "),
+                Piece::number(work),
+                Text(" "),
+                Piece::kind(kind),
+                Text(" "),
+                Num(num),
+                Text("\n"),
+            ],
+            buffer,
+            sink,
+        ),
+        Entry::Helper { no, granted } => put_pieces(
+            &[
+                Text("helper "),
+                Piece::number(no),
+                Text(if granted { " granted\n" } else { " refused\n" }),
+            ],
+            buffer,
+            sink,
+        ),
+        Entry::Arrive { work, outcome } => put_arrival(work, outcome, buffer, sink),
+        Entry::End { why } => put_pieces(&[Text(end_line(why))], buffer, sink),
+    }
+}
+
+// Puts the line of an arrival behind what waits.
+fn put_arrival<K: Sink>(
+    work: WorkNo,
+    outcome: Outcome,
+    buffer: &mut Buffer,
+    sink: &mut K,
+) -> Result<(), WriteFailed>
+    ensures passes { OnOk result (Passes (K.taken sink.old) (K.taken sink.new) buffer.old buffer.new
+        (entry_text (Entry.Arrive work outcome))) }
+    ensures begins { OnErr result (TookBeginning (K.taken sink.old) (K.taken sink.new)
+        (buffer.old ++ entry_text (Entry.Arrive work outcome))) }
+    ensures lost { OnErr result (buffer.new ≡ []) }
+    ensures never_falls { K.faults sink.old ≤ K.faults sink.new }
+    ensures cause { OnErr result (Rose (K.faults sink.old) (K.faults sink.new)) }
+{
+    match outcome {
+        Outcome::Good(num) => put_pieces(
+            &[
+                Text("arrive "),
+                Piece::number(work),
+                Text(" good "),
+                Num(num),
+                Text("\n"),
+            ],
+            buffer,
+            sink,
+        ),
+        Outcome::Bad(num) => put_pieces(
+            &[
+                Text("arrive "),
+                Piece::number(work),
+                Text(" bad "),
+                Num(num),
+                Text("\n"),
+            ],
+            buffer,
+            sink,
+        ),
+    }
+}
+
+// The line of the end.
+fn end_line(why: Ending) -> &'static str
+    ensures { result.now ≡ entry_text (Entry.End why) }
+{
+    match why {
+        Ending::Idle => "end idle\n",
+        Ending::Stopped => "end stopped\n",
+        Ending::Unhandled => "end unhandled\n",
+        Ending::Jobs => "end jobs\n",
+        Ending::Stuck => "end stuck\n",
+    }
+}
+
+#[cfg(test)]
+mod tests {
+    use super::*;
+    use ak_base::list::{Items, NoMemory};
+    use ak_base::memory::MemSink;
+    use ak_base::number::{HelperNo, IvarNo, JobNo, MonNo};
+    use ak_labor::work::WorkKind;
+    use std::alloc::Global;
+
+    fn of_print(alloc: Global) -> Result<Trace, NoMemory> {
+        let job = JobNo::new(0);
+        let entries = vec![in alloc;
+            Entry::Enq { job, low: false },
+            Entry::Cycle,
+            Entry::Job { job },
+            Entry::Print { num: 7 },
+            Entry::End { why: Ending::Idle },
+        ]?;
+        Ok(Items::from_vec(entries))
+    }
+
+    #[test]
+    fn a_number_is_printed(rt: HostRuntime) -> Result<(), NoMemory> {
+        let mut sink = MemSink::make(rt.alloc(), 100, 100, Vec::new(rt.alloc()))?;
+        assert_eq!(rt; write_trace(&of_print(rt.alloc())?, &mut sink), Ok(()));
+        assert_eq!(rt;
+            sink.taken(),
+            b"enq 0 normal\ncycle\njob 0\nprint 7\nend idle\n".as_slice()
+        );
+        Ok(())
+    }
+
+    #[test]
+    fn helpers_and_works_are_written(rt: HostRuntime) -> Result<(), NoMemory> {
+        let (zero, one) = (HelperNo::new(0), HelperNo::new(1));
+        let entries = vec![in rt.alloc();
+            Entry::Helper {
+                no: zero,
+                granted: true
+            },
+            Entry::Helper {
+                no: one,
+                granted: false
+            },
+            Entry::Submit {
+                work: WorkNo::new(1),
+                kind: WorkKind::Square,
+                num: 4
+            },
+            Entry::Monitor {
+                mon: MonNo::new(1),
+                parent: MonNo::new(0)
+            },
+            Entry::Detach { mon: MonNo::new(1) },
+            Entry::Enq {
+                job: JobNo::new(1),
+                low: false
+            },
+            Entry::Error {
+                num: -7,
+                mon: MonNo::new(1)
+            },
+            Entry::Caught { mon: MonNo::new(1) },
+            Entry::Arrive {
+                work: WorkNo::new(1),
+                outcome: Outcome::Good(16)
+            },
+            Entry::Fill {
+                ivar: IvarNo::new(1),
+                num: 16
+            },
+        ]?;
+        let mut sink = MemSink::make(rt.alloc(), 200, 7, Vec::new(rt.alloc()))?;
+        assert_eq!(rt; write_trace(&Items::from_vec(entries), &mut sink), Ok(()));
+        assert_eq!(rt;
+            sink.taken(),
+            b"helper 0 granted\nhelper 1 refused\nsubmit 1 square 4\nmonitor 1 0\ndetach 1\nenq 1 normal\nerror -7 1\ncaught 1\narrive 1 good 16\nfill 1 16\n".as_slice()
+        );
+        Ok(())
+    }
+
+    #[test]
+    fn a_fault_leaves_a_beginning(rt: HostRuntime) -> Result<(), NoMemory> {
+        let trace = of_print(rt.alloc())?;
+        for k in 0..5 {
+            let mut sink = MemSink::make(rt.alloc(), 100, 1, vec![in rt.alloc(); k]?)?;
+            assert_eq!(rt; write_trace(&trace, &mut sink), Err(WriteFailed));
+            assert_eq!(rt; sink.taken(), &b"enq 0"[..k as usize]);
+        }
+        Ok(())
+    }
+}
