@@ -1,0 +1,138 @@
+-- The table of statements: the words of each, the names that it binds, and the limits of its lists and numbers.
+use Rattle.std.specs.Prelude.{◌≡◌, ℕ, ◌≤◌, true, List, [], ◌∷◌, ◌++◌, map, length, pos, codes, FitsSigned, if◌then◌else◌}
+use Rattle.std.specs.Int.{w64}
+use Rattle.std.specs.List.{flat_map}
+use Rattle.ak_text.specs.Numbers.{Writes}
+use Rattle.ak_syntax.specs.declared.script.Kind.{Kind}
+use Rattle.ak_syntax.specs.declared.script.Kind.TheVariants as of_kind
+use Rattle.ak_syntax.specs.declared.script.Param.{Param}
+use Rattle.ak_syntax.specs.declared.statement.Atom.{Atom}
+use Rattle.ak_syntax.specs.declared.statement.Atom.TheVariants.{Literal, Local}
+use Rattle.ak_syntax.specs.declared.statement.Choice.{Choice}
+use Rattle.ak_syntax.specs.declared.statement.Stmt.{Stmt}
+use Rattle.ak_syntax.specs.declared.statement.Stmt.TheVariants.{Set, Print, Ivar, Fill, Offer, Upon, Bind, All, Any, Choose, Sched, Low, Yield, Never, After, Event, Abort, Tick, Monitor, Within, Detach, OnError, NextError, Raise, Send, Try, Throttle, Enqueue, ThrottleDone, Pipe, Write, Put, Read, Close, CloseRead, Flushed, Work, Helper, HelperWork, HelperDone, Stop, Ret}
+use Rattle.ak_syntax.specs.Names.{is_name, kind_word, operator_word, work_word}
+
+-- what one word of a line stands for
+pub data Place : Type 0 where
+  -- these very bytes
+  Exactly : List ℕ → Place
+  -- a name
+  Named : List ℕ → Place
+  -- a number, or the name of a local
+  Valued : Atom → Place
+  -- a number that is no value
+  Counted : ℕ → Place
+  -- a name, a colon and a kind
+  Typed : Param → Place
+
+-- the word stands for that
+abbrev pub Stands : Place → List ℕ → Type 0
+Stands (Exactly bytes) word = word ≡ bytes
+Stands (Named name) word = (word ≡ name) × (is_name name ≡ true)
+Stands (Valued (Literal number)) word = FitsSigned w64 number × Writes word number
+Stands (Valued (Local name)) word = (word ≡ name) × (is_name name ≡ true)
+Stands (Counted number) word = Writes word (pos number)
+Stands (Typed param) word = (word ≡ param.name ++ 58 ∷ kind_word param.kind) × (is_name param.name ≡ true)
+
+-- a deferred of a `choose` and its procedure
+abbrev pub choice_places : Choice → List Place
+choice_places choice = Named choice.d ∷ Named choice.proc ∷ []
+
+-- the words of a statement
+abbrev pub row : Stmt → List Place
+row (Set x a op b) = Exactly (codes "set") ∷ Named x ∷ Valued a ∷ Exactly (operator_word op) ∷ Valued b ∷ []
+row (Print a) = Exactly (codes "print") ∷ Valued a ∷ []
+row (Ivar i) = Exactly (codes "ivar") ∷ Named i ∷ []
+row (Fill i a) = Exactly (codes "fill") ∷ Named i ∷ Valued a ∷ []
+row (Offer i a) = Exactly (codes "offer") ∷ Named i ∷ Valued a ∷ []
+row (Upon d proc args) = Exactly (codes "upon") ∷ Named d ∷ Named proc ∷ map Valued args
+row (Bind r d proc args) = Exactly (codes "bind") ∷ Named r ∷ Named d ∷ Named proc ∷ map Valued args
+row (All r deferreds proc args) = Exactly (codes "all") ∷ Named r ∷ (map Named deferreds ++ Exactly (codes "then") ∷ Named proc ∷ map Valued args)
+row (Any r deferreds) = Exactly (codes "any") ∷ Named r ∷ map Named deferreds
+row (Choose r choices args) = Exactly (codes "choose") ∷ Named r ∷ (flat_map choice_places choices ++ Exactly (codes "with") ∷ map Valued args)
+row (Sched proc args) = Exactly (codes "sched") ∷ Named proc ∷ map Valued args
+row (Low proc args) = Exactly (codes "low") ∷ Named proc ∷ map Valued args
+row (Yield r) = Exactly (codes "yield") ∷ Named r ∷ []
+row (Never r) = Exactly (codes "never") ∷ Named r ∷ []
+row (After r n) = Exactly (codes "after") ∷ Named r ∷ Valued n ∷ []
+row (Event e r n) = Exactly (codes "event") ∷ Named e ∷ Named r ∷ Valued n ∷ []
+row (Abort e) = Exactly (codes "abort") ∷ Named e ∷ []
+row (Tick n) = Exactly (codes "tick") ∷ Valued n ∷ []
+row (Monitor m) = Exactly (codes "monitor") ∷ Named m ∷ []
+row (Within m proc args) = Exactly (codes "within") ∷ Named m ∷ Named proc ∷ map Valued args
+row (Detach m) = Exactly (codes "detach") ∷ Named m ∷ []
+row (OnError m proc args) = Exactly (codes "onerror") ∷ Named m ∷ Named proc ∷ map Valued args
+row (NextError r m) = Exactly (codes "nexterr") ∷ Named r ∷ Named m ∷ []
+row (Raise a) = Exactly (codes "raise") ∷ Valued a ∷ []
+row (Send m a) = Exactly (codes "send") ∷ Named m ∷ Valued a ∷ []
+row (Try r proc args catch catch_args) = Exactly (codes "try") ∷ Named r ∷ Named proc ∷ (map Valued args ++ Exactly (codes "else") ∷ Named catch ∷ map Valued catch_args)
+row (Throttle t k stop) = Exactly (codes "throttle") ∷ Named t ∷ Counted k ∷ Exactly (if stop then codes "stop" else codes "go") ∷ []
+row (Enqueue r t proc args) = Exactly (codes "enqueue") ∷ Named r ∷ Named t ∷ Named proc ∷ map Valued args
+row (ThrottleDone r t) = Exactly (codes "tdone") ∷ Named r ∷ Named t ∷ []
+row (Pipe p b) = Exactly (codes "pipe") ∷ Named p ∷ Counted b ∷ []
+row (Write r p a) = Exactly (codes "write") ∷ Named r ∷ Named p ∷ Valued a ∷ []
+row (Put p a) = Exactly (codes "put") ∷ Named p ∷ Valued a ∷ []
+row (Read r p proc args eof eof_args) = Exactly (codes "rd") ∷ Named r ∷ Named p ∷ Named proc ∷ (map Valued args ++ Exactly (codes "else") ∷ Named eof ∷ map Valued eof_args)
+row (Close p) = Exactly (codes "close") ∷ Named p ∷ []
+row (CloseRead p) = Exactly (codes "closeread") ∷ Named p ∷ []
+row (Flushed r p) = Exactly (codes "flushed") ∷ Named r ∷ Named p ∷ []
+row (Work r kind a) = Exactly (codes "work") ∷ Named r ∷ Exactly (work_word kind) ∷ Valued a ∷ []
+row (Helper h x) = Exactly (codes "helper") ∷ Named h ∷ Named x ∷ []
+row (HelperWork r h kind a) = Exactly (codes "hwork") ∷ Named r ∷ Named h ∷ Exactly (work_word kind) ∷ Valued a ∷ []
+row (HelperDone h) = Exactly (codes "hdone") ∷ Named h ∷ []
+row Stop = Exactly (codes "stop") ∷ []
+row (Ret a) = Exactly (codes "ret") ∷ Valued a ∷ []
+
+-- a name that a statement binds, with its kind
+abbrev pub bound : List ℕ → Kind → Param
+bound name kind = record { name = name; kind = kind }
+
+-- the names that a statement binds, in the order of its words
+abbrev pub binds : Stmt → List Param
+binds (Set x a op b) = bound x of_kind.Num ∷ []
+binds (Ivar i) = bound i of_kind.Ivar ∷ []
+binds (Bind r d proc args) = bound r of_kind.Def ∷ []
+binds (All r deferreds proc args) = bound r of_kind.Def ∷ []
+binds (Any r deferreds) = bound r of_kind.Def ∷ []
+binds (Choose r choices args) = bound r of_kind.Def ∷ []
+binds (Yield r) = bound r of_kind.Def ∷ []
+binds (Never r) = bound r of_kind.Def ∷ []
+binds (After r n) = bound r of_kind.Def ∷ []
+binds (Event e r n) = bound e of_kind.Event ∷ bound r of_kind.Def ∷ []
+binds (Monitor m) = bound m of_kind.Mon ∷ []
+binds (NextError r m) = bound r of_kind.Def ∷ []
+binds (Try r proc args catch catch_args) = bound r of_kind.Def ∷ []
+binds (Throttle t k stop) = bound t of_kind.Thr ∷ []
+binds (Enqueue r t proc args) = bound r of_kind.Def ∷ []
+binds (ThrottleDone r t) = bound r of_kind.Def ∷ []
+binds (Pipe p b) = bound p of_kind.Pipe ∷ []
+binds (Write r p a) = bound r of_kind.Def ∷ []
+binds (Read r p proc args eof eof_args) = bound r of_kind.Def ∷ []
+binds (Flushed r p) = bound r of_kind.Def ∷ []
+binds (Work r kind a) = bound r of_kind.Def ∷ []
+binds (Helper h x) = bound h of_kind.Helper ∷ bound x of_kind.Num ∷ []
+binds (HelperWork r h kind a) = bound r of_kind.Def ∷ []
+binds _ = []
+
+-- one to eight
+abbrev pub IsOneToEight : ℕ → Type 0
+IsOneToEight count = (1 ≤ count) × (count ≤ 8)
+
+-- at most 8 atoms stand in a list of arguments, one to 8 deferreds in one of deferreds, and the numbers lie in their ranges
+abbrev pub IsWithin : Stmt → Type 0
+IsWithin (Upon d proc args) = length args ≤ 8
+IsWithin (Bind r d proc args) = length args ≤ 8
+IsWithin (All r deferreds proc args) = IsOneToEight (length deferreds) × (length args ≤ 8)
+IsWithin (Any r deferreds) = IsOneToEight (length deferreds)
+IsWithin (Choose r choices args) = IsOneToEight (length choices) × (length args ≤ 8)
+IsWithin (Sched proc args) = length args ≤ 8
+IsWithin (Low proc args) = length args ≤ 8
+IsWithin (Within m proc args) = length args ≤ 8
+IsWithin (OnError m proc args) = length args ≤ 8
+IsWithin (Try r proc args catch catch_args) = (length args ≤ 8) × (length catch_args ≤ 8)
+IsWithin (Throttle t k stop) = (1 ≤ k) × (k ≤ 1000000)
+IsWithin (Enqueue r t proc args) = length args ≤ 8
+IsWithin (Pipe p b) = b ≤ 1000000
+IsWithin (Read r p proc args eof eof_args) = (length args ≤ 8) × (length eof_args ≤ 8)
+IsWithin _ = Unit {0}
