@@ -1,0 +1,4 @@
+pub mod Giving
+pub mod Locals
+pub mod Naming
+pub mod Sound

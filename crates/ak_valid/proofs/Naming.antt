@@ -1,0 +1,119 @@
+-- Names in a list, and behind references.
+use Rattle.std.proofs.Common.{◌≡◌, ◌≢◌, ℕ, zero, suc, take, drop, get_or, ◌+◌, ◌<◌, ◌≤◌, Bool, true, false, not, ◌||◌, cond, List, [], ◌∷◌, ◌++◌, length, map, Option, Some, None, refl, sym, ap, ◌∙◌, subst, arith, Bor, MatchOption, ltb}
+use Rattle.std.proofs.lemmas.Grind.{common_steps}
+use Rattle.std.proofs.lemmas.List.{map-append}
+use Rattle.std.specs.List.{AllByRecursion, list_any, find, position, position_or_len, slice_get}
+use Rattle.std.specs.Str.{bytes_eq}
+use Rattle.std.proofs.lemmas.Slice.Eq.{bytes_eq-Decides}
+use Rattle.ak_valid.specs.Numbered.{at}
+use Rattle.ak_valid.specs.Valid.{AreDistinct}
+
+pub any_mapped : {A B : Type 0} (p : B → Bool) (f : A → B) (xs : List A) → list_any p (map f xs) ≡ list_any (λ x. p (f x)) xs
+any_mapped p f [] = refl
+any_mapped p f (x ∷ xs) = ap (λ b. p (f x) || b) (any_mapped p f xs)
+
+pub place_mapped : {A B : Type 0} (p : B → Bool) (f : A → B) (xs : List A) → position_or_len p (map f xs) ≡ position_or_len (λ x. p (f x)) xs
+place_mapped p f [] = refl
+place_mapped p f (x ∷ xs) = ap (λ n. cond (not (p (f x))) (1 + n) 0) (place_mapped p f xs)
+
+-- the names behind references, after a name is put last where it is new
+pub added : (keys new : List (Bor (List ℕ))) (k : Bor (List ℕ)) (old : List (List ℕ)) (fresh : Bool) → map (λ (x : Bor (List ℕ)). x.now) keys ≡ old
+    → fresh ≡ not (list_any (λ (x : Bor (List ℕ)). bytes_eq k.now x.now) keys) → new ≡ cond (list_any (λ (x : Bor (List ℕ)). bytes_eq k.now x.now) keys) keys (keys ++ k ∷ [])
+    → (fresh ≡ not (list_any (bytes_eq k.now) old)) × (map (λ (x : Bor (List ℕ)). x.now) new ≡ cond fresh (old ++ k.now ∷ []) old)
+added keys new k old fresh is was then =
+    let same : list_any (bytes_eq k.now) old ≡ list_any (λ (x : Bor (List ℕ)). bytes_eq k.now x.now) keys = rw (sym is) (any_mapped (bytes_eq k.now) (λ (x : Bor (List ℕ)). x.now) keys) in
+    (was ∙ ap not (sym same), of (list_any (λ (x : Bor (List ℕ)). bytes_eq k.now x.now) keys) was then)
+  where
+    of : (b : Bool) → fresh ≡ not b → new ≡ cond b keys (keys ++ k ∷ []) → map (λ (x : Bor (List ℕ)). x.now) new ≡ cond fresh (old ++ k.now ∷ []) old
+    of true f n = rw (f, n) is
+    of false f n = rw (f, n, map-append) (ap (λ (names : List (List ℕ)). names ++ k.now ∷ []) is)
+
+-- something passes exactly where the first place that passes is one of the list
+pub any_is_place : {A : Type 0} (p : A → Bool) (xs : List A) → list_any p xs ≡ ltb (position_or_len p xs) (length xs)
+any_is_place p [] = refl
+any_is_place p (x ∷ xs) = of (p x) (any_is_place p xs)
+  where
+    of : (b : Bool) → list_any p xs ≡ ltb (position_or_len p xs) (length xs) → (b || list_any p xs) ≡ ltb (cond (not b) (1 + position_or_len p xs) 0) (suc (length xs))
+    of true ih = grind arith
+    of false ih = ih ∙ grind arith
+
+-- the place of a name behind references
+pub placed : (keys : List (Bor (List ℕ))) (name : List ℕ) (names : List (List ℕ)) (r : Option ℕ) → map (λ (x : Bor (List ℕ)). x.now) keys ≡ names
+    → r ≡ position (λ (x : Bor (List ℕ)). bytes_eq name x.now) keys
+    → MatchOption r (list_any (bytes_eq name) names ≡ false) (λ place. (list_any (bytes_eq name) names ≡ true) × (place ≡ at names name))
+placed keys name names r is e =
+    let any : list_any (bytes_eq name) names ≡ ltb (position_or_len (λ (x : Bor (List ℕ)). bytes_eq name x.now) keys) (length keys) =
+    rw (sym is) (any_mapped (bytes_eq name) (λ (x : Bor (List ℕ)). x.now) keys) ∙ any_is_place (λ (x : Bor (List ℕ)). bytes_eq name x.now) keys in
+    let place : at names name ≡ position_or_len (λ (x : Bor (List ℕ)). bytes_eq name x.now) keys = rw (sym is) (place_mapped (bytes_eq name) (λ (x : Bor (List ℕ)). x.now) keys) in
+    of (ltb (position_or_len (λ (x : Bor (List ℕ)). bytes_eq name x.now) keys) (length keys)) any e place
+  where
+    of : (b : Bool) → list_any (bytes_eq name) names ≡ b → r ≡ cond b (Some (position_or_len (λ (x : Bor (List ℕ)). bytes_eq name x.now) keys)) None
+        → at names name ≡ position_or_len (λ (x : Bor (List ℕ)). bytes_eq name x.now) keys
+        → MatchOption r (list_any (bytes_eq name) names ≡ false) (λ place. (list_any (bytes_eq name) names ≡ true) × (place ≡ at names name))
+    of true any is place = rw is (any, sym place)
+    of false any is place = rw is any
+
+pub all_push : {A : Type 0} (P : A → Type 0) (xs : List A) (x : A) → AllByRecursion P xs → P x → AllByRecursion P (xs ++ x ∷ [])
+all_push P [] x h p = (p, tt)
+all_push P (y ∷ xs) x h p = (h.0, all_push P xs x h.1 p)
+
+pub all_at : {A : Type 0} (P : A → Type 0) (xs ys : List A) (x : A) → AllByRecursion P (xs ++ x ∷ ys) → P x
+all_at P [] ys x h = h.0
+all_at P (y ∷ xs) ys x h = all_at P xs ys x h.1
+
+head_other : (name x : List ℕ) (names : List (List ℕ)) → list_any (bytes_eq name) (x ∷ names) ≡ false → (x ≢ name) × (list_any (bytes_eq name) names ≡ false)
+head_other name x names h = of (bytes_eq name x) refl h
+  where
+    of : (b : Bool) → bytes_eq name x ≡ b → (b || list_any (bytes_eq name) names) ≡ false → (x ≢ name) × (list_any (bytes_eq name) names ≡ false)
+    of true e h = cc
+    of false e h = ((λ same. let yes : bytes_eq name x ≡ true = (bytes_eq-Decides name x).1 (sym same) in cc), h)
+
+-- a name that is not among distinct ones
+pub distinct_push : (names : List (List ℕ)) (name : List ℕ) → AreDistinct names → list_any (bytes_eq name) names ≡ false → AreDistinct (names ++ name ∷ [])
+distinct_push [] name h new = (tt, tt)
+distinct_push (x ∷ names) name h new = let other = head_other name x names new in
+    (all_push (λ y. x ≢ y) names name h.0 other.0, distinct_push names name h.1 other.1)
+
+-- a name that stands before
+pub distinct_refused : (front rest : List (List ℕ)) (name : List ℕ) → list_any (bytes_eq name) front ≡ true → AreDistinct (front ++ name ∷ rest) → ⊥
+distinct_refused [] rest name twice h = cc
+distinct_refused (x ∷ front) rest name twice h = of (bytes_eq name x) refl twice (λ t. distinct_refused front rest name t h.1)
+  where
+    of : (b : Bool) → bytes_eq name x ≡ b → (b || list_any (bytes_eq name) front) ≡ true → (list_any (bytes_eq name) front ≡ true → ⊥) → ⊥
+    of true e t later = all_at (λ y. x ≢ y) front rest name h.0 (sym ((bytes_eq-Decides name x).0 e))
+    of false e t later = later t
+
+-- one item more of a list, and all of it round that item
+pub take_next : {A : Type 0} (xs : List A) (i : ℕ) (x : A) → i < length xs → x ≡ get_or xs i x → take (i + 1) xs ≡ take i xs ++ x ∷ []
+take_next [] i x below is = absurd (omega arith)
+take_next (y ∷ xs) zero x below is = ap (λ z. z ∷ []) (sym is)
+take_next (y ∷ xs) (suc i) x below is = let next : suc i + 1 ≡ suc (i + 1) = omega arith in rw next (ap (λ zs. y ∷ zs) (take_next xs i x (omega arith) is))
+
+pub take_round : {A : Type 0} (xs : List A) (i : ℕ) (x : A) → i < length xs → x ≡ get_or xs i x → xs ≡ take i xs ++ x ∷ drop (suc i) xs
+take_round [] i x below is = absurd (omega arith)
+take_round (y ∷ xs) zero x below is = ap (λ z. z ∷ xs) (sym is)
+take_round (y ∷ xs) (suc i) x below is = ap (λ zs. y ∷ zs) (take_round xs i x (omega arith) is)
+
+-- a name was put last, or stood before
+pub names_step : {A : Type 0} (f : A → List ℕ) (xs : List A) (i : ℕ) (x : A) (names new : List (List ℕ)) (fresh : Bool) → i < length xs → x ≡ get_or xs i x
+    → names ≡ map f (take i xs) → AreDistinct (map f (take i xs)) → fresh ≡ not (list_any (bytes_eq (f x)) names) → new ≡ cond fresh (names ++ f x ∷ []) names → fresh ≡ true
+    → (new ≡ map f (take (i + 1) xs)) × AreDistinct (map f (take (i + 1) xs))
+names_step f xs i x names new fresh below is so_far distinct was then true_ =
+    let absent : list_any (bytes_eq (f x)) (map f (take i xs)) ≡ false = rw (sym so_far) (not_false _ (sym true_ ∙ was)) in
+    let grown : map f (take (i + 1) xs) ≡ map f (take i xs) ++ f x ∷ [] = rw (take_next xs i x below is) (map-append f (take i xs) (x ∷ [])) in
+    (then ∙ rw true_ (ap (λ (ns : List (List ℕ)). ns ++ f x ∷ []) so_far) ∙ sym grown, rw grown (distinct_push (map f (take i xs)) (f x) distinct absent))
+  where
+    not_false : (b : Bool) → true ≡ not b → b ≡ false
+    not_false true h = cc
+    not_false false h = refl
+
+pub names_twice : {A : Type 0} (f : A → List ℕ) (xs : List A) (i : ℕ) (x : A) (names : List (List ℕ)) (fresh : Bool) → i < length xs → x ≡ get_or xs i x
+    → names ≡ map f (take i xs) → fresh ≡ not (list_any (bytes_eq (f x)) names) → fresh ≡ false → AreDistinct (map f xs) → ⊥
+names_twice f xs i x names fresh below is so_far was false_ distinct =
+    let twice : list_any (bytes_eq (f x)) (map f (take i xs)) ≡ true = rw (sym so_far) (not_true _ (sym false_ ∙ was)) in
+    let round : map f xs ≡ map f (take i xs) ++ f x ∷ map f (drop (suc i) xs) = ap (map f) (take_round xs i x below is) ∙ map-append f (take i xs) (x ∷ drop (suc i) xs) in
+    distinct_refused (map f (take i xs)) (map f (drop (suc i) xs)) (f x) twice (subst AreDistinct round distinct)
+  where
+    not_true : (b : Bool) → false ≡ not b → b ≡ true
+    not_true true h = refl
+    not_true false h = cc
