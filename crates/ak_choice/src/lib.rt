@@ -1,0 +1,2 @@
+//! Groups of registrations that are decided once, and guards.
+#![tactic(auto)]

@@ -1,0 +1,4 @@
+//! The clock: alarms and pending yields.
+#![tactic(auto)]
+
+pub mod alarm;

@@ -1,0 +1,4 @@
+//! The tree of monitors.
+#![tactic(auto)]
+
+pub mod route;

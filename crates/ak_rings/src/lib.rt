@@ -1,0 +1,4 @@
+//! The two queues of jobs.
+#![tactic(auto)]
+
+pub mod job;
