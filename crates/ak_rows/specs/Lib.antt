@@ -1,0 +1,16 @@
+pub mod Row
+pub mod Basics
+pub mod Errors
+pub mod Histories
+pub mod Choices
+pub mod Throttles
+pub mod Pipes
+pub mod Works
+pub mod WorldFirst
+pub mod WorldSecond
+pub mod WorldThird
+pub mod SimFirst
+pub mod SimSecond
+pub mod SimThird
+pub mod SimFourth
+pub mod SimFifth
