@@ -1,0 +1,5 @@
+//! Whole runs of a program over a port.
+#![tactic(auto)]
+
+pub mod cycle;
+pub mod printing;
