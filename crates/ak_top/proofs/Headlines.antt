@@ -1,0 +1,42 @@
+-- The headline from what its parts give.
+use Rattle.std.proofs.Common.{◌≡◌, ℕ, List, sym, subst}
+use Rattle.ak_trace.specs.declared.entry.Entry.{Entry}
+use Rattle.ak_history.specs.declared.event.Event.{Event}
+use Rattle.ak_history.specs.Legal.{Legal}
+use Rattle.ak_history.specs.Scheduler.{asks, replies}
+use Rattle.ak_syntax.specs.declared.script.Proc.{Proc}
+use Rattle.ak_valid.specs.declared.program.NumProc.{NumProc}
+use Rattle.ak_valid.specs.Programs.{NumProgram}
+use Rattle.ak_valid.specs.Numbered.{numbered, main_of}
+use Rattle.ak_machine.specs.declared.config.Config.{Config}
+use Rattle.ak_machine.specs.Run.{run_of}
+use Rattle.ak_cycle.specs.Runs.{HasEndedWith}
+use Rattle.ak_top.specs.Headline.{IsScript, RunsTo, TellsNoScript}
+use Rattle.ak_top.specs.Reading.{Had}
+use Rattle.ak_top.specs.Stops.{HasRun}
+use Rattle.std.specs.Prelude.{Option}
+use Rattle.ak_top.specs.Idle.{AreIdle}
+use Rattle.ak_top.proofs.Idling.{once_idle}
+
+-- a run over the pool without works
+pub runs_to : (config : Config) (bytes : List ℕ) (script : List Proc) (program : NumProgram) (trace : List Entry) (history kept : List Event) (threads : ℕ) (waits : List ℕ) → IsScript bytes script → program.procs ≡ numbered script → program.main ≡ main_of script → HasEndedWith (run_of program.procs program.main config (replies kept)) trace (asks kept) waits → history ≡ kept → Legal threads kept → threads ≡ config.threads → AreIdle kept → RunsTo config bytes trace history
+runs_to config bytes script program trace history kept threads waits is_script procs_are main_is ended history_is legal threads_are idle =
+    let by_main : HasEndedWith (run_of program.procs (main_of script) config (replies kept)) trace (asks kept) waits =
+    subst (λ (main : ℕ). HasEndedWith (run_of program.procs main config (replies kept)) trace (asks kept) waits) main_is ended in
+    let by_script : HasEndedWith (run_of (numbered script) (main_of script) config (replies kept)) trace (asks kept) waits =
+    subst (λ (procs : List NumProc). HasEndedWith (run_of procs (main_of script) config (replies kept)) trace (asks kept) waits) procs_are by_main in
+    rw history_is (record {
+      script = script;
+      is_script = is_script;
+      legal = subst (λ (n : ℕ). Legal n kept) threads_are legal;
+      ended = by_script.ended;
+      trace_is = by_script.trace_is;
+      asks_are = by_script.asks_are;
+      once = once_idle trace kept idle;
+    })
+
+-- a source that tells no script has no run
+pub no_script_runs : (config : Config) (told : Option (List ℕ)) (trace : List Entry) (history : List Event) → HasRun config told trace history → TellsNoScript told → ⊥
+no_script_runs config told trace history has tells =
+    let same : tells.bytes ≡ has.bytes = subst (λ (t : Option (List ℕ)). Had t has.bytes) tells.tells has.had
+    in tells.no_script has.run.script (subst (λ (bytes : List ℕ). IsScript bytes has.run.script) (sym same) has.run.is_script)

@@ -1,0 +1,5 @@
+pub mod Building
+pub mod Headlines
+pub mod Idling
+pub mod Usages
+pub mod Writing

@@ -1,0 +1,8 @@
+pub mod Headline
+pub mod Idle
+pub mod Output
+pub mod Reading
+pub mod Reports
+pub mod Status
+pub mod Stops
+pub mod Words

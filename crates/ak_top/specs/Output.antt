@@ -1,0 +1,15 @@
+-- The output of a run. Own.
+use Rattle.std.specs.Prelude.{ℕ, List, [], ◌∷◌, ◌++◌, codes}
+use Rattle.ak_print.specs.Line.{line_text}
+use Rattle.ak_trace.specs.declared.entry.Entry.{Entry}
+use Rattle.ak_trace.specs.Text.{trace_text}
+use Rattle.ak_history.specs.declared.event.Event.{Event}
+use Rattle.ak_history.specs.Text.{history_text}
+
+-- the line between the trace and the history
+abbrev pub pool_line : List ℕ
+pool_line = line_text (codes "%pool" ∷ [])
+
+-- the text of the trace, the line `%pool`, and the text of the history
+abbrev pub output : List Entry → List Event → List ℕ
+output trace history = trace_text trace ++ pool_line ++ history_text history

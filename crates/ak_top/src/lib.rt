@@ -1,0 +1,10 @@
+//! The top call: command words, a script from a source, and its run to a sink.
+#![tactic(auto)]
+
+pub mod no_works;
+pub mod reading;
+pub mod running;
+pub mod status;
+pub mod stop;
+pub mod top;
+pub mod words;

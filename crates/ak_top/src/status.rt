@@ -1,0 +1,132 @@
+//! How a command ended.
+
+ghost use Rattle.std.specs.Prelude.{◌≡◌, ◌++◌, IfOk, OnOk, decimal};
+ghost use Rattle.ak_text.specs.Decimal.{decimal_of};
+ghost use Rattle.ak_top.specs.Status.{number_of, message_of, name_of_kind};
+
+use ak_base::list::NoMemory;
+use ak_base::number::Num;
+use ak_history::event::History;
+use ak_text::decimal::{write_num, write_u64};
+use ak_trace::entry::Trace;
+use std::alloc::Global;
+
+/// How a command ended.
+#[derive(Clone, Copy, PartialEq, Eq, Debug)]
+pub enum Status {
+    /// The run ended idle or stopped.
+    Done,
+    /// The run ended by an error that no monitor caught.
+    Unhandled { num: Num },
+    /// The words are no command; `place` counts words from 0.
+    Usage { place: u32 },
+    /// The script is refused: a line from 1, or 0 for the script as a whole, and the kind of the fault.
+    Refused { line: u32, kind: u8 },
+    /// A read of the source failed.
+    ReadFault,
+    /// A write to the sink failed.
+    WriteFault,
+    /// As many jobs ran as the limit allows, and one more could run.
+    Jobs,
+    /// There was no memory. Nothing was written.
+    NoMemory,
+    /// Every thread is reserved, and the works that are left wait for one that is not.
+    Stuck,
+}
+
+impl Status {
+    /// The exit status of the program, 0 to 10.
+    pub fn number(&self) -> u8
+        ensures { result ≡ number_of self.now }
+    {
+        match self {
+            Status::Done => 0,
+            Status::Unhandled { .. } => 1,
+            Status::Usage { .. } => 2,
+            Status::Refused { .. } => 3,
+            Status::ReadFault => 4,
+            Status::WriteFault => 5,
+            Status::Jobs => 6,
+            Status::NoMemory => 7,
+            Status::Stuck => 10,
+        }
+    }
+}
+
+/// What a command gave: its status, and the trace and the history of its run. Both are empty where there was no run.
+#[derive(Debug, Drop)]
+pub struct Report {
+    pub status: Status,
+    pub trace: Trace,
+    pub history: History,
+}
+
+/// The name of a kind of fault of a script.
+fn kind_name(kind: u8) -> &'static str
+    ensures { result.now ≡ name_of_kind kind }
+{
+    match kind {
+        1 => "BadLine",
+        2 => "TooLong",
+        3 => "TooMany",
+        4 => "BadNumber",
+        5 => "NoMain",
+        6 => "TwiceNamed",
+        7 => "UnknownName",
+        8 => "WrongKind",
+        9 => "WrongCount",
+        10 => "Unbuilt",
+        _ => "",
+    }
+}
+
+/// The line for standard error, without a line end; it is empty for `Done`. Own.
+///
+/// # Errors
+///
+/// `NoMemory` where there is no memory for the text.
+pub fn message(alloc: Global, status: &Status) -> Result<Vec<u8>, NoMemory>
+    ensures { IfOk result (λ text. text.items ≡ message_of status.now) }
+{
+    let mut text = Vec::new(alloc);
+    match status {
+        Status::Done => {}
+        Status::Unhandled { num } => {
+            text.extend_from_slice(b"unhandled error ")?;
+            push_num(&mut text, *num)?;
+        }
+        Status::Usage { place } => {
+            text.extend_from_slice(b"usage: word ")?;
+            push_u64(&mut text, u64::from(*place))?;
+        }
+        Status::Refused { line, kind } => {
+            text.extend_from_slice(b"line ")?;
+            push_u64(&mut text, u64::from(*line))?;
+            text.extend_from_slice(b": ")?;
+            text.extend_from_slice(kind_name(*kind).as_bytes())?;
+        }
+        Status::ReadFault => text.extend_from_slice(b"read fault")?,
+        Status::WriteFault => text.extend_from_slice(b"write fault")?,
+        Status::Jobs => text.extend_from_slice(b"job limit reached")?,
+        Status::NoMemory => text.extend_from_slice(b"no memory")?,
+        Status::Stuck => text.extend_from_slice(b"stuck: all threads are reserved")?,
+    }
+    Ok(text)
+}
+
+// Puts the decimal text of a number last.
+fn push_num(text: &mut Vec<u8>, num: Num) -> Result<(), NoMemory>
+    ensures { OnOk result (text.new.items ≡ text.old.items ++ decimal_of num) }
+{
+    let mut digits = [0; 20];
+    let len = write_num(num, &mut digits);
+    text.extend_from_slice(&digits[..len])
+}
+
+fn push_u64(text: &mut Vec<u8>, number: u64) -> Result<(), NoMemory>
+    ensures { OnOk result (text.new.items ≡ text.old.items ++ decimal number) }
+{
+    let mut digits = [0; 20];
+    let len = write_u64(number, &mut digits);
+    text.extend_from_slice(&digits[..len])
+}

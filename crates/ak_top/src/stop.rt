@@ -1,0 +1,90 @@
+//! Why a command has no run.
+
+ghost use Rattle.std.specs.Prelude.{◌≡◌};
+ghost use Rattle.ak_top.specs.Stops.{status_at};
+
+use crate::no_works::NoFault;
+use crate::reading::ReadError;
+use crate::status::Status;
+use ak_labor::port::PortError;
+use ak_syntax::refusal::ParseRefused;
+use ak_valid::refusal::ValidRefused;
+
+/// Why a command has no run.
+#[derive(Clone, Copy, PartialEq, Eq, Debug)]
+pub enum Stop {
+    /// A read of the source failed.
+    ReadFault,
+    /// The source holds no valid script of what is built.
+    Refused,
+    NoMemory,
+}
+
+impl Stop {
+    /// The status that tells it.
+    pub fn status(self) -> Status
+        ensures { result ≡ status_at self }
+    {
+        match self {
+            Stop::ReadFault => Status::ReadFault,
+            Stop::Refused => Status::Refused { line: 0, kind: 10 },
+            Stop::NoMemory => Status::NoMemory,
+        }
+    }
+}
+
+impl From<ReadError> for Stop {
+    ghost use Rattle.std.specs.Prelude.{◌≡◌};
+    ghost use Rattle.ak_top.specs.Stops.{stop_by_read};
+
+    ghost from_gives = { λ error stop. stop ≡ stop_by_read error };
+
+    fn from(error: ReadError) -> Stop {
+        match error {
+            ReadError::Failed => Stop::ReadFault,
+            ReadError::NoMemory => Stop::NoMemory,
+        }
+    }
+}
+
+impl From<ParseRefused> for Stop {
+    ghost use Rattle.std.specs.Prelude.{◌≡◌};
+    ghost use Rattle.ak_top.specs.Stops.{stop_by_parse};
+
+    ghost from_gives = { λ error stop. stop ≡ stop_by_parse error };
+
+    fn from(error: ParseRefused) -> Stop {
+        match error {
+            ParseRefused::At { .. } => Stop::Refused,
+            ParseRefused::NoMemory => Stop::NoMemory,
+        }
+    }
+}
+
+impl From<ValidRefused> for Stop {
+    ghost use Rattle.std.specs.Prelude.{◌≡◌};
+    ghost use Rattle.ak_top.specs.Stops.{stop_by_validity};
+
+    ghost from_gives = { λ error stop. stop ≡ stop_by_validity error };
+
+    fn from(error: ValidRefused) -> Stop {
+        match error {
+            ValidRefused::At { .. } => Stop::Refused,
+            ValidRefused::NoMemory => Stop::NoMemory,
+        }
+    }
+}
+
+impl From<PortError<NoFault>> for Stop {
+    ghost use Rattle.std.specs.Prelude.{◌≡◌};
+    ghost use Rattle.ak_top.specs.declared.stop.Stop.TheVariants.{NoMemory};
+
+    ghost from_gives = { λ _ stop. stop ≡ NoMemory };
+
+    fn from(error: PortError<NoFault>) -> Stop {
+        match error {
+            PortError::Fault(fault) => match fault {},
+            PortError::NoMemory => Stop::NoMemory,
+        }
+    }
+}
