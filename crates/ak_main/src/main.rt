@@ -1,0 +1,61 @@
+//! The program: the words after its name, standard input, standard output and the exit status.
+#![tactic(auto)]
+
+mod streams;
+
+use crate::streams::{StdSink, StdSource};
+use ak_base::list::{Items, Word};
+use ak_top::status::{Status, message};
+use ak_top::top::top;
+use std::env;
+use std::io::{self, Write};
+use std::process::ExitCode;
+
+/// Carries out the command that the words give, and ends with the number of its status.
+fn main(rt: HostRuntime) -> ExitCode {
+    match command_words(&rt) {
+        Ok(words) => {
+            let mut source = StdSource::new(rt.stdin());
+            let mut sink = StdSink::new(rt.stdout());
+            let report = top(rt.alloc(), words.as_slice(), &mut source, &mut sink);
+            tell(&rt, &report.status);
+            ExitCode::from(report.status.number())
+        }
+        Err(error) if error.kind() == io::ErrorKind::OutOfMemory => {
+            ExitCode::from(Status::NoMemory.number())
+        }
+        Err(_) => {
+            let status = Status::Usage { place: 0 };
+            tell(&rt, &status);
+            ExitCode::from(status.number())
+        }
+    }
+}
+
+/// The words after the program's name.
+fn command_words(rt: &HostRuntime) -> io::Result<Vec<Word>> {
+    let mut words = Vec::new(rt.alloc());
+    for (place, word) in env::args(rt)?.enumerate() {
+        if place > 0 {
+            words.push(Items::from_vec(word.into_bytes()))?;
+        }
+    }
+    Ok(words)
+}
+
+/// Prints the message of a status on standard error, where it has one. Where there is no memory for it, or standard
+/// error takes nothing, nothing more is told.
+fn tell(rt: &HostRuntime, status: &Status) {
+    if let Ok(text) = message(rt.alloc(), status) {
+        if !text.is_empty() {
+            let _ = print_line(rt, text.as_slice());
+        }
+    }
+}
+
+// Prints a line on standard error.
+fn print_line(rt: &HostRuntime, text: &[u8]) -> io::Result<()> {
+    let mut error = rt.stderr();
+    error.write_all(text)?;
+    error.write_all(b"\n")
+}
