@@ -1,0 +1,7 @@
+mod Lists
+mod Entries
+mod Views
+mod Keeps
+mod Ends
+mod Wraps
+mod Laws
