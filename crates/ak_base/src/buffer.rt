@@ -92,6 +92,8 @@ impl Buffer {
 }
 
 impl Default for Buffer {
+    ghost is_default = { λ buffer. buffer ≡ [] };
+
     fn default() -> Buffer {
         Buffer::new()
     }

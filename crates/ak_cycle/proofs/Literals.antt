@@ -3,13 +3,13 @@ use Rattle.std.proofs.Common.{◌≡◌, ℕ, zero, suc, List, [], ◌∷◌, ma
 use Rattle.std.specs.Prelude.{Option, MatchOption, slice_get}
 use Rattle.std.specs.List.{AllByRecursion}
 use Rattle.std.proofs.lemmas.Option.{get_or_from_slice_get}
-use Rattle.ak_valid.specs.declared.statement.NumAtom.TheVariants.{Literal, Local}
-use Rattle.ak_valid.specs.declared.statement.NumStmt.{NumStmt}
-use Rattle.ak_valid.specs.declared.statement.NumStmt.TheVariants.{Print}
-use Rattle.ak_valid.specs.declared.program.NumParam.{NumParam}
-use Rattle.ak_valid.specs.declared.program.NumProc.{NumProc}
-use Rattle.ak_valid.specs.declared.program.NumStatement.{NumStatement}
-use Rattle.ak_valid.specs.Programs.{ProgramIsSound, ProcIsSound, LinesAreSound, IsKnown, num_uses, num_binds}
+use Rattle.ak_program.specs.declared.statement.NumAtom.TheVariants.{Literal, Local}
+use Rattle.ak_program.specs.declared.statement.NumStmt.{NumStmt}
+use Rattle.ak_program.specs.declared.statement.NumStmt.TheVariants.{Print}
+use Rattle.ak_program.specs.declared.program.NumParam.{NumParam}
+use Rattle.ak_program.specs.declared.program.NumProc.{NumProc}
+use Rattle.ak_program.specs.declared.program.NumStatement.{NumStatement}
+use Rattle.ak_program.specs.Programs.{ProgramIsSound, ProcIsSound, LinesAreSound, IsKnown, num_uses, num_binds}
 use Rattle.ak_machine.specs.Job.{lines_of}
 use Rattle.ak_cycle.specs.Printing.{IsBuilt, IsPrintStmt, PrintsLiteral, IsPrint}
 

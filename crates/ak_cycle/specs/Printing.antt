@@ -2,13 +2,13 @@
 use Rattle.std.specs.Prelude.{ℤ, pos, Option, Some, None}
 use Rattle.ak_trace.specs.declared.entry.Entry.{Entry}
 use Rattle.ak_trace.specs.declared.entry.Entry.TheVariants as entry
-use Rattle.ak_valid.specs.declared.statement.NumAtom.{NumAtom}
-use Rattle.ak_valid.specs.declared.statement.NumAtom.TheVariants.{Literal, Local}
-use Rattle.ak_valid.specs.declared.statement.NumStmt.{NumStmt}
-use Rattle.ak_valid.specs.declared.statement.NumStmt.TheVariants.{Print}
-use Rattle.ak_valid.specs.declared.program.NumPrefix.{NumPrefix}
-use Rattle.ak_valid.specs.declared.program.NumStatement.{NumStatement}
-use Rattle.ak_valid.specs.Programs.{NumProgram}
+use Rattle.ak_program.specs.declared.statement.NumAtom.{NumAtom}
+use Rattle.ak_program.specs.declared.statement.NumAtom.TheVariants.{Literal, Local}
+use Rattle.ak_program.specs.declared.statement.NumStmt.{NumStmt}
+use Rattle.ak_program.specs.declared.statement.NumStmt.TheVariants.{Print}
+use Rattle.ak_program.specs.declared.program.NumPrefix.{NumPrefix}
+use Rattle.ak_program.specs.declared.program.NumStatement.{NumStatement}
+use Rattle.ak_program.specs.Programs.{NumProgram}
 use Rattle.ak_machine.specs.Job.{lines_of}
 use Rattle.std.specs.List.{AllByRecursion}
 

@@ -17,7 +17,7 @@ use ak_labor::port::{Port, PortError};
 use ak_labor::work::Arrivals;
 use ak_machine::config::Config;
 use ak_trace::entry::{Ending, Entry, Trace};
-use ak_valid::program::{NumStatement, Program};
+use ak_program::program::{NumStatement, Program};
 use std::alloc::Global;
 
 /// Runs a program on the scheduler, with a port as its pool. Own; after Async's scheduler in outline.

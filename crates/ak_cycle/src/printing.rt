@@ -7,8 +7,8 @@ ghost use Rattle.ak_cycle.specs.Printing.{IsPrint, PrintsLiteral, print_of, prin
 use ak_base::list::NoMemory;
 use ak_base::number::Num;
 use ak_trace::entry::{Entry, Trace};
-use ak_valid::program::NumStatement;
-use ak_valid::statement::{NumAtom, NumStmt};
+use ak_program::program::NumStatement;
+use ak_program::statement::{NumAtom, NumStmt};
 
 // The number that a statement prints.
 fn printed(stmt: &NumStmt) -> Num

@@ -11,8 +11,8 @@ use Rattle.ak_frames.specs.declared.frame.Frame.{Frame}
 use Rattle.ak_frames.specs.declared.frame.Frame.TheVariants.{Call, OnValue, AllPart, ChoicePart, TryDone, BodyDone, BodyFailed, Raise}
 use Rattle.ak_frames.specs.declared.frame.Task.{Task}
 use Rattle.ak_trace.specs.declared.entry.Entry.TheVariants as entry
-use Rattle.ak_valid.specs.declared.program.NumProc.{NumProc}
-use Rattle.ak_valid.specs.declared.program.NumStatement.{NumStatement}
+use Rattle.ak_program.specs.declared.program.NumProc.{NumProc}
+use Rattle.ak_program.specs.declared.program.NumStatement.{NumStatement}
 use Rattle.ak_rings.specs.declared.job.Job.{Job}
 use Rattle.ak_machine.specs.declared.held.Callback.{Callback}
 use Rattle.ak_machine.specs.declared.held.Purpose.{Purpose}

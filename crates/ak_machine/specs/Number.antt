@@ -1,7 +1,7 @@
 -- Numbers of scripts: 64 bits with a sign. Own.
 use Rattle.std.specs.Prelude.{ℤ, pos, negsuc, ◌+ℤ◌, ◌-ℤ◌, ◌*ℤ◌, ◌^◌, zero, suc, Bool, true, false, not, nat_lt, int_lt, int_le, int_div, int_rem, if◌then◌else◌}
-use Rattle.ak_syntax.specs.declared.statement.Operator.{Operator}
-use Rattle.ak_syntax.specs.declared.statement.Operator.TheVariants.{Add, Sub, Mul, Div, Rem, Less, LessEq, Equal, NotEqual}
+use Rattle.ak_script.specs.declared.statement.Operator.{Operator}
+use Rattle.ak_script.specs.declared.statement.Operator.TheVariants.{Add, Sub, Mul, Div, Rem, Less, LessEq, Equal, NotEqual}
 
 -- what an operation gives: a number, or the reason why it raises
 pub data Computed : Type 0 where

@@ -12,7 +12,7 @@ use Rattle.ak_trace.specs.declared.entry.Entry.{Entry}
 use Rattle.ak_trace.specs.declared.entry.Entry.TheVariants as entry
 use Rattle.ak_trace.specs.declared.entry.Ending.{Ending}
 use Rattle.ak_trace.specs.declared.entry.Ending.TheVariants as ending
-use Rattle.ak_valid.specs.declared.program.NumProc.{NumProc}
+use Rattle.ak_program.specs.declared.program.NumProc.{NumProc}
 use Rattle.ak_rings.specs.declared.job.Job.{Job}
 use Rattle.ak_rings.specs.Queues.{pick_of, picked_from}
 use Rattle.ak_machine.specs.declared.config.Config.{Config}

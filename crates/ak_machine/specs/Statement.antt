@@ -11,10 +11,10 @@ use Rattle.ak_frames.specs.declared.value.Value.TheVariants.{Num, Ivar, Mon, Pip
 use Rattle.ak_frames.specs.declared.frame.Ret.TheVariants.{Drop, To}
 use Rattle.ak_frames.specs.declared.frame.Frame.TheVariants.{OnValue}
 use Rattle.ak_trace.specs.declared.entry.Entry.TheVariants as entry
-use Rattle.ak_valid.specs.declared.statement.NumChoice.{NumChoice}
-use Rattle.ak_valid.specs.declared.statement.NumStmt.{NumStmt}
-use Rattle.ak_valid.specs.declared.statement.NumStmt.TheVariants as stmt
-use Rattle.ak_valid.specs.declared.program.NumStatement.{NumStatement}
+use Rattle.ak_program.specs.declared.statement.NumChoice.{NumChoice}
+use Rattle.ak_program.specs.declared.statement.NumStmt.{NumStmt}
+use Rattle.ak_program.specs.declared.statement.NumStmt.TheVariants as stmt
+use Rattle.ak_program.specs.declared.program.NumStatement.{NumStatement}
 use Rattle.ak_clock.specs.Clock.{set_to}
 use Rattle.ak_machine.specs.declared.config.Flow.TheVariants as flow
 use Rattle.ak_machine.specs.declared.held.Handler.TheVariants.{OnError}

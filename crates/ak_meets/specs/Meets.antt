@@ -4,7 +4,7 @@ use Rattle.ak_labor.specs.declared.ask.Ask.{Ask}
 use Rattle.ak_history.specs.declared.event.Event.{Event}
 use Rattle.ak_history.specs.Events.{numbers_below}
 use Rattle.ak_history.specs.Scheduler.{ask_of, asks, replies}
-use Rattle.ak_valid.specs.declared.program.NumProc.{NumProc}
+use Rattle.ak_program.specs.declared.program.NumProc.{NumProc}
 use Rattle.ak_machine.specs.declared.config.Config.{Config}
 use Rattle.ak_machine.specs.Run.{Run, Ran, HasEnded, Wants, IsWrong, run_of}
 

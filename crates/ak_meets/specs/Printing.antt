@@ -2,9 +2,9 @@
 use Rattle.std.specs.Prelude.{pos, List, [], ◌∷◌, None}
 use Rattle.ak_history.specs.declared.event.Event.{Event}
 use Rattle.ak_history.specs.declared.event.Event.TheVariants.{Drain, Close}
-use Rattle.ak_valid.specs.declared.statement.NumAtom.TheVariants.{Literal}
-use Rattle.ak_valid.specs.declared.statement.NumStmt.TheVariants.{Print}
-use Rattle.ak_valid.specs.declared.program.NumProc.{NumProc}
+use Rattle.ak_program.specs.declared.statement.NumAtom.TheVariants.{Literal}
+use Rattle.ak_program.specs.declared.statement.NumStmt.TheVariants.{Print}
+use Rattle.ak_program.specs.declared.program.NumProc.{NumProc}
 use Rattle.ak_machine.specs.declared.config.Config.{Config}
 
 abbrev pub printing : List NumProc

@@ -2,9 +2,9 @@
 use Rattle.std.specs.Prelude.{pos, negsuc, List, [], ◌∷◌, false}
 use Rattle.ak_labor.specs.declared.ask.Ask.TheVariants as ask
 use Rattle.ak_labor.specs.Calls.{Done}
-use Rattle.ak_valid.specs.declared.statement.NumAtom.TheVariants.{Literal, Local}
-use Rattle.ak_valid.specs.declared.statement.NumStmt.TheVariants as stmt
-use Rattle.ak_valid.specs.declared.program.NumProc.{NumProc}
+use Rattle.ak_program.specs.declared.statement.NumAtom.TheVariants.{Literal, Local}
+use Rattle.ak_program.specs.declared.statement.NumStmt.TheVariants as stmt
+use Rattle.ak_program.specs.declared.program.NumProc.{NumProc}
 use Rattle.ak_trace.specs.declared.entry.Entry.{Entry}
 use Rattle.ak_trace.specs.declared.entry.Entry.TheVariants as entry
 use Rattle.ak_trace.specs.declared.entry.Ending.TheVariants as ending

@@ -5,11 +5,11 @@ use Rattle.ak_labor.specs.declared.ask.Ask.TheVariants as ask
 use Rattle.ak_labor.specs.declared.work.WorkKind.{WorkKind}
 use Rattle.ak_labor.specs.Calls.{Reply, Pairs}
 use Rattle.ak_trace.specs.declared.entry.Entry.{Entry}
-use Rattle.ak_valid.specs.declared.statement.NumChoice.{NumChoice}
-use Rattle.ak_valid.specs.declared.statement.NumStmt.{NumStmt}
-use Rattle.ak_valid.specs.declared.program.NumPrefix.{NumPrefix}
-use Rattle.ak_valid.specs.declared.program.NumStatement.{NumStatement}
-use Rattle.ak_valid.specs.declared.program.NumProc.{NumProc}
+use Rattle.ak_program.specs.declared.statement.NumChoice.{NumChoice}
+use Rattle.ak_program.specs.declared.statement.NumStmt.{NumStmt}
+use Rattle.ak_program.specs.declared.program.NumPrefix.{NumPrefix}
+use Rattle.ak_program.specs.declared.program.NumStatement.{NumStatement}
+use Rattle.ak_program.specs.declared.program.NumProc.{NumProc}
 use Rattle.ak_machine.specs.declared.config.Config.{Config}
 use Rattle.ak_machine.specs.Run.{Run, HasEnded, run_of}
 

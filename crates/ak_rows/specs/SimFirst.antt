@@ -4,11 +4,11 @@ use Rattle.ak_labor.specs.declared.ask.Ask.TheVariants as ask
 use Rattle.ak_labor.specs.declared.work.Outcome.TheVariants as outcome
 use Rattle.ak_labor.specs.declared.work.WorkKind.TheVariants as kind
 use Rattle.ak_labor.specs.Calls.{Pairs, Granted, Done}
-use Rattle.ak_syntax.specs.declared.statement.Operator.TheVariants as operator
-use Rattle.ak_valid.specs.declared.statement.NumAtom.TheVariants.{Literal, Local}
-use Rattle.ak_valid.specs.declared.statement.NumStmt.TheVariants as stmt
-use Rattle.ak_valid.specs.declared.program.NumPrefix.TheVariants.{If, Unless}
-use Rattle.ak_valid.specs.declared.program.NumProc.{NumProc}
+use Rattle.ak_script.specs.declared.statement.Operator.TheVariants as operator
+use Rattle.ak_program.specs.declared.statement.NumAtom.TheVariants.{Literal, Local}
+use Rattle.ak_program.specs.declared.statement.NumStmt.TheVariants as stmt
+use Rattle.ak_program.specs.declared.program.NumPrefix.TheVariants.{If, Unless}
+use Rattle.ak_program.specs.declared.program.NumProc.{NumProc}
 use Rattle.ak_trace.specs.declared.entry.Entry.{Entry}
 use Rattle.ak_trace.specs.declared.entry.Entry.TheVariants as entry
 use Rattle.ak_trace.specs.declared.entry.Ending.TheVariants as ending

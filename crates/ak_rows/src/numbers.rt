@@ -3,7 +3,7 @@
 ghost use Rattle.std.specs.Prelude.{◌≡◌, pos, negsuc};
 ghost use Rattle.ak_machine.specs.Number.{computed, Gives, Overflows, DividesByZero};
 
-use ak_syntax::statement::Operator;
+use ak_script::statement::Operator;
 
 /// Sums and quotients beyond 64 bits and by zero, the sign of a remainder, and a comparison.
 pub fn row_operators()

@@ -4,14 +4,14 @@ use Rattle.std.specs.Prelude.{codes}
 use Rattle.std.specs.List.{AllZip, slice_get}
 use Rattle.std.proofs.lemmas.List.{map-append}
 use Rattle.ak_syntax.proofs.Lists.{take_push, zip_push}
-use Rattle.ak_syntax.specs.declared.script.Prefix.{Prefix}
-use Rattle.ak_syntax.specs.declared.script.Param.{Param}
-use Rattle.ak_syntax.specs.declared.script.Statement.{Statement}
-use Rattle.ak_syntax.specs.declared.script.Form.{Form}
-use Rattle.ak_syntax.specs.declared.script.Form.TheVariants.{Head, Body, End}
-use Rattle.ak_syntax.specs.declared.statement.Atom.{Atom}
-use Rattle.ak_syntax.specs.declared.statement.Stmt.{Stmt}
-use Rattle.ak_syntax.specs.declared.statement.Stmt.TheVariants.{Print}
+use Rattle.ak_script.specs.declared.script.Prefix.{Prefix}
+use Rattle.ak_script.specs.declared.script.Param.{Param}
+use Rattle.ak_script.specs.declared.script.Statement.{Statement}
+use Rattle.ak_syntax.specs.declared.line_form.Form.{Form}
+use Rattle.ak_syntax.specs.declared.line_form.Form.TheVariants.{Head, Body, End}
+use Rattle.ak_script.specs.declared.statement.Atom.{Atom}
+use Rattle.ak_script.specs.declared.statement.Stmt.{Stmt}
+use Rattle.ak_script.specs.declared.statement.Stmt.TheVariants.{Print}
 use Rattle.ak_syntax.specs.Table.{Stands, Named, Valued, Typed, row}
 use Rattle.ak_text.specs.Lines.{TextLine, words_of}
 use Rattle.ak_syntax.specs.Grammar.{IsBuiltLine, places, prefix_places, IsBuiltForm, IsBuiltStmt, IsBuiltStatement}

@@ -7,18 +7,18 @@ use Rattle.std.specs.List.{AllZip, AllByRecursion, filter, find, slice_get, list
 use Rattle.std.specs.Str.{bytes_eq}
 use Rattle.ak_text.specs.Lines.{TextLine, words_of, text_lines}
 use Rattle.ak_text.specs.Numbers.{Writes, without_minus, has_minus, is_digit, AreDigits}
-use Rattle.ak_syntax.specs.declared.script.Kind.{Kind}
-use Rattle.ak_syntax.specs.declared.script.Kind.TheVariants.{Num, Ivar, Def, Mon, Pipe, Thr, Event, Helper}
-use Rattle.ak_syntax.specs.declared.script.Param.{Param}
-use Rattle.ak_syntax.specs.declared.script.Prefix.{Prefix}
-use Rattle.ak_syntax.specs.declared.script.Statement.{Statement}
-use Rattle.ak_syntax.specs.declared.script.Proc.{Proc}
-use Rattle.ak_syntax.specs.declared.script.Form.{Form}
-use Rattle.ak_syntax.specs.declared.script.Form.TheVariants.{Head, Body, End}
-use Rattle.ak_syntax.specs.declared.statement.Atom.{Atom}
-use Rattle.ak_syntax.specs.declared.statement.Atom.TheVariants.{Literal, Local}
-use Rattle.ak_syntax.specs.declared.statement.Stmt.{Stmt}
-use Rattle.ak_syntax.specs.declared.statement.Stmt.TheVariants.{Print}
+use Rattle.ak_script.specs.declared.script.Kind.{Kind}
+use Rattle.ak_script.specs.declared.script.Kind.TheVariants.{Num, Ivar, Def, Mon, Pipe, Thr, Event, Helper}
+use Rattle.ak_script.specs.declared.script.Param.{Param}
+use Rattle.ak_script.specs.declared.script.Prefix.{Prefix}
+use Rattle.ak_script.specs.declared.script.Statement.{Statement}
+use Rattle.ak_script.specs.declared.script.Proc.{Proc}
+use Rattle.ak_syntax.specs.declared.line_form.Form.{Form}
+use Rattle.ak_syntax.specs.declared.line_form.Form.TheVariants.{Head, Body, End}
+use Rattle.ak_script.specs.declared.statement.Atom.{Atom}
+use Rattle.ak_script.specs.declared.statement.Atom.TheVariants.{Literal, Local}
+use Rattle.ak_script.specs.declared.statement.Stmt.{Stmt}
+use Rattle.ak_script.specs.declared.statement.Stmt.TheVariants.{Print}
 use Rattle.ak_syntax.specs.declared.reader.Reader.{Reader}
 use Rattle.ak_syntax.specs.declared.refusal.ParseRefused.{ParseRefused}
 use Rattle.ak_syntax.specs.declared.refusal.ParseRefused.TheVariants.{At, NoMemory}

@@ -2,14 +2,14 @@
 use Rattle.std.proofs.Common.{IfSome, Err, ◌≡◌, ℕ, suc, ◌+◌, ◌≤◌, ◌<◌, List, [], ◌∷◌, ◌++◌, length, map, Option, Some, None, refl, sym, ap, ◌∙◌, subst, arith, append_assoc, length-append}
 use Rattle.std.proofs.lemmas.List.{append-nil, map-append}
 use Rattle.std.specs.List.{AllByRecursion, flat_map}
-use Rattle.ak_syntax.specs.declared.script.Param.{Param}
-use Rattle.ak_syntax.specs.declared.script.Prefix.{Prefix}
-use Rattle.ak_syntax.specs.declared.script.Statement.{Statement}
-use Rattle.ak_syntax.specs.declared.script.Proc.{Proc}
-use Rattle.ak_syntax.specs.declared.script.Form.{Form}
-use Rattle.ak_syntax.specs.declared.script.Form.TheVariants.{Head, Body, End}
-use Rattle.ak_syntax.specs.declared.statement.Stmt.{Stmt}
-use Rattle.ak_syntax.specs.declared.statement.Stmt.TheVariants.{Print}
+use Rattle.ak_script.specs.declared.script.Param.{Param}
+use Rattle.ak_script.specs.declared.script.Prefix.{Prefix}
+use Rattle.ak_script.specs.declared.script.Statement.{Statement}
+use Rattle.ak_script.specs.declared.script.Proc.{Proc}
+use Rattle.ak_syntax.specs.declared.line_form.Form.{Form}
+use Rattle.ak_syntax.specs.declared.line_form.Form.TheVariants.{Head, Body, End}
+use Rattle.ak_script.specs.declared.statement.Stmt.{Stmt}
+use Rattle.ak_script.specs.declared.statement.Stmt.TheVariants.{Print}
 use Rattle.ak_syntax.specs.declared.reader.Reader.{Reader}
 use Rattle.ak_syntax.specs.Table.{binds, IsWithin}
 use Rattle.ak_syntax.specs.Grammar.{forms, locals, MayHavePrefix, StatementIsWithin, ProcIsWithin, IsBuiltStmt, IsBuiltStatement}

@@ -4,9 +4,9 @@ use Rattle.std.proofs.lemmas.Grind.{common_steps}
 use Rattle.std.proofs.lemmas.List.Sums.{split_at_first, prefix_len-le-length, prefix_len_stops}
 use Rattle.std.specs.List.{find, list_all, position, position_or_len, before_first, after_first}
 use Rattle.std.specs.Str.{bytes_eq}
-use Rattle.ak_syntax.specs.declared.script.Kind.{Kind}
-use Rattle.ak_syntax.specs.declared.script.Kind.TheVariants.{Num, Ivar, Def, Mon, Pipe, Thr, Event, Helper}
-use Rattle.ak_syntax.specs.declared.script.Param.{Param}
+use Rattle.ak_script.specs.declared.script.Kind.{Kind}
+use Rattle.ak_script.specs.declared.script.Kind.TheVariants.{Num, Ivar, Def, Mon, Pipe, Thr, Event, Helper}
+use Rattle.ak_script.specs.declared.script.Param.{Param}
 use Rattle.ak_syntax.specs.Names.{is_name, is_name_byte, is_letter, kind_word, all_kinds, is_colon}
 use Rattle.ak_syntax.specs.Table.{Stands, Typed}
 use Rattle.std.proofs.lemmas.Slice.Eq.{bytes_eq-Decides}

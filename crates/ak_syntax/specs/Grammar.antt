@@ -2,15 +2,15 @@
 use Rattle.std.specs.Prelude.{◌≡◌, ℕ, ◌≤◌, Bool, false, not, ◌||◌, ◌==◌, Option, Some, None, List, [], ◌∷◌, ◌++◌, map, filter, length, codes}
 use Rattle.std.specs.List.{AllZip, AllByRecursion, flat_map}
 use Rattle.ak_text.specs.Lines.{TextLine, text_lines, words_of, has_bad_byte}
-use Rattle.ak_syntax.specs.declared.script.Param.{Param}
-use Rattle.ak_syntax.specs.declared.script.Prefix.{Prefix}
-use Rattle.ak_syntax.specs.declared.script.Prefix.TheVariants.{If, Unless}
-use Rattle.ak_syntax.specs.declared.script.Statement.{Statement}
-use Rattle.ak_syntax.specs.declared.script.Proc.{Proc}
-use Rattle.ak_syntax.specs.declared.script.Form.{Form}
-use Rattle.ak_syntax.specs.declared.script.Form.TheVariants.{Head, Body, End}
-use Rattle.ak_syntax.specs.declared.statement.Stmt.{Stmt}
-use Rattle.ak_syntax.specs.declared.statement.Stmt.TheVariants.{Print}
+use Rattle.ak_script.specs.declared.script.Param.{Param}
+use Rattle.ak_script.specs.declared.script.Prefix.{Prefix}
+use Rattle.ak_script.specs.declared.script.Prefix.TheVariants.{If, Unless}
+use Rattle.ak_script.specs.declared.script.Statement.{Statement}
+use Rattle.ak_script.specs.declared.script.Proc.{Proc}
+use Rattle.ak_syntax.specs.declared.line_form.Form.{Form}
+use Rattle.ak_syntax.specs.declared.line_form.Form.TheVariants.{Head, Body, End}
+use Rattle.ak_script.specs.declared.statement.Stmt.{Stmt}
+use Rattle.ak_script.specs.declared.statement.Stmt.TheVariants.{Print}
 use Rattle.ak_syntax.specs.Table.{Place, Exactly, Named, Valued, Typed, Stands, row, binds, IsWithin}
 
 -- the words of a prefix

@@ -2,12 +2,12 @@
 use Rattle.std.specs.Prelude.{ℕ, Bool, ◌&&◌, ◌||◌, not, ◌==◌, nat_le, List, [], ◌∷◌, length, slice_index, codes}
 use Rattle.std.specs.List.{list_all, list_any}
 use Rattle.std.specs.Str.{bytes_eq}
-use Rattle.ak_syntax.specs.declared.script.Kind.{Kind}
-use Rattle.ak_syntax.specs.declared.script.Kind.TheVariants as of_kind
-use Rattle.ak_syntax.specs.declared.statement.Operator.{Operator}
-use Rattle.ak_syntax.specs.declared.statement.Operator.TheVariants.{Add, Sub, Mul, Div, Rem, Less, LessEq, Equal, NotEqual}
-use Rattle.ak_syntax.specs.declared.statement.WorkWord.{WorkWord}
-use Rattle.ak_syntax.specs.declared.statement.WorkWord.TheVariants.{Square, Mix, Fail}
+use Rattle.ak_script.specs.declared.script.Kind.{Kind}
+use Rattle.ak_script.specs.declared.script.Kind.TheVariants as of_kind
+use Rattle.ak_script.specs.declared.statement.Operator.{Operator}
+use Rattle.ak_script.specs.declared.statement.Operator.TheVariants.{Add, Sub, Mul, Div, Rem, Less, LessEq, Equal, NotEqual}
+use Rattle.ak_script.specs.declared.statement.WorkWord.{WorkWord}
+use Rattle.ak_script.specs.declared.statement.WorkWord.TheVariants.{Square, Mix, Fail}
 
 -- a letter of ASCII, or `_`
 abbrev pub is_letter : ℕ → Bool

@@ -1,9 +1,9 @@
 -- How far the reader of a script has come.
 use Rattle.std.specs.Prelude.{◌≡◌, ℕ, ◌+◌, ◌≤◌, Option, Some, None, Result, Ok, Err, List, [], ◌∷◌, ◌++◌, map, length}
 use Rattle.std.specs.List.{AllByRecursion}
-use Rattle.ak_syntax.specs.declared.script.Proc.{Proc}
-use Rattle.ak_syntax.specs.declared.script.Form.{Form}
-use Rattle.ak_syntax.specs.declared.script.Form.TheVariants.{Head, Body, End}
+use Rattle.ak_script.specs.declared.script.Proc.{Proc}
+use Rattle.ak_syntax.specs.declared.line_form.Form.{Form}
+use Rattle.ak_syntax.specs.declared.line_form.Form.TheVariants.{Head, Body, End}
 use Rattle.ak_syntax.specs.declared.reader.Reader.{Reader}
 use Rattle.ak_syntax.specs.declared.refusal.ParseRefused.{ParseRefused}
 use Rattle.ak_syntax.specs.declared.refusal.ParseRefused.TheVariants.{At, NoMemory}

@@ -3,14 +3,14 @@ use Rattle.std.specs.Prelude.{◌≡◌, ℕ, ◌≤◌, true, List, [], ◌∷�
 use Rattle.std.specs.Int.{w64}
 use Rattle.std.specs.List.{flat_map}
 use Rattle.ak_text.specs.Numbers.{Writes}
-use Rattle.ak_syntax.specs.declared.script.Kind.{Kind}
-use Rattle.ak_syntax.specs.declared.script.Kind.TheVariants as of_kind
-use Rattle.ak_syntax.specs.declared.script.Param.{Param}
-use Rattle.ak_syntax.specs.declared.statement.Atom.{Atom}
-use Rattle.ak_syntax.specs.declared.statement.Atom.TheVariants.{Literal, Local}
-use Rattle.ak_syntax.specs.declared.statement.Choice.{Choice}
-use Rattle.ak_syntax.specs.declared.statement.Stmt.{Stmt}
-use Rattle.ak_syntax.specs.declared.statement.Stmt.TheVariants.{Set, Print, Ivar, Fill, Offer, Upon, Bind, All, Any, Choose, Sched, Low, Yield, Never, After, Event, Abort, Tick, Monitor, Within, Detach, OnError, NextError, Raise, Send, Try, Throttle, Enqueue, ThrottleDone, Pipe, Write, Put, Read, Close, CloseRead, Flushed, Work, Helper, HelperWork, HelperDone, Stop, Ret}
+use Rattle.ak_script.specs.declared.script.Kind.{Kind}
+use Rattle.ak_script.specs.declared.script.Kind.TheVariants as of_kind
+use Rattle.ak_script.specs.declared.script.Param.{Param}
+use Rattle.ak_script.specs.declared.statement.Atom.{Atom}
+use Rattle.ak_script.specs.declared.statement.Atom.TheVariants.{Literal, Local}
+use Rattle.ak_script.specs.declared.statement.Choice.{Choice}
+use Rattle.ak_script.specs.declared.statement.Stmt.{Stmt}
+use Rattle.ak_script.specs.declared.statement.Stmt.TheVariants.{Set, Print, Ivar, Fill, Offer, Upon, Bind, All, Any, Choose, Sched, Low, Yield, Never, After, Event, Abort, Tick, Monitor, Within, Detach, OnError, NextError, Raise, Send, Try, Throttle, Enqueue, ThrottleDone, Pipe, Write, Put, Read, Close, CloseRead, Flushed, Work, Helper, HelperWork, HelperDone, Stop, Ret}
 use Rattle.ak_syntax.specs.Names.{is_name, kind_word, operator_word, work_word}
 
 -- what one word of a line stands for

@@ -8,10 +8,11 @@ ghost use Rattle.ak_syntax.specs.Refusals.{Finds};
 ghost use Rattle.ak_syntax.specs.Table.{Stands, Typed};
 
 use crate::refusal::ParseRefused;
-use crate::script::{Form, Param, Statement};
-use crate::statement::Stmt;
+use crate::line_form::Form;
 use crate::word::{atom, name, param};
 use ak_base::list::Items;
+use ak_script::script::{Param, Statement};
+use ak_script::statement::Stmt;
 use ak_text::line::Line;
 use std::alloc::Global;
 

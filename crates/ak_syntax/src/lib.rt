@@ -2,9 +2,8 @@
 #![tactic(auto)]
 
 mod form;
+pub mod line_form;
 pub mod parse;
 mod reader;
 pub mod refusal;
-pub mod script;
-pub mod statement;
 mod word;

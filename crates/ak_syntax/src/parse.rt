@@ -1,14 +1,14 @@
 //! The reader of scripts.
 
 ghost use Rattle.std.specs.Prelude.{◌≡◌, List, IfOk, not};
-ghost use Rattle.ak_syntax.specs.declared.script.Proc.{Proc};
+ghost use Rattle.ak_script.specs.declared.script.Proc.{Proc};
 ghost use Rattle.ak_syntax.specs.Grammar.{Reads, IsBuilt, counts};
 ghost use Rattle.ak_syntax.specs.Refusals.{Finds};
 
 use crate::form::form;
 use crate::reader::Reader;
 use crate::refusal::ParseRefused;
-use crate::script::Script;
+use ak_script::script::Script;
 use ak_text::line::Line;
 use ak_text::text::lines;
 use std::alloc::Global;

@@ -6,8 +6,9 @@ ghost use Rattle.ak_syntax.specs.Reading.{so_far, IsWhole, IsUnderWay, TakesForm
 ghost use Rattle.ak_syntax.specs.Refusals.{Finds};
 
 use crate::refusal::ParseRefused;
-use crate::script::{Form, Proc, Script, Statement};
+use crate::line_form::Form;
 use ak_base::list::{Items, NoMemory};
+use ak_script::script::{Proc, Script, Statement};
 use std::alloc::Global;
 
 /// The most procedures of a script.

@@ -8,9 +8,9 @@ ghost use Rattle.ak_syntax.specs.Refusals.{Finds};
 ghost use Rattle.ak_syntax.specs.Table.{Stands, Named, Valued, Typed};
 
 use crate::refusal::ParseRefused;
-use crate::script::{Kind, Param};
-use crate::statement::Atom;
 use ak_base::list::{Items, Word};
+use ak_script::script::{Kind, Param};
+use ak_script::statement::Atom;
 use ak_text::read::read_num;
 use std::alloc::Global;
 

@@ -2,13 +2,13 @@
 use Rattle.std.proofs.Common.{◌≡◌, ℕ, zero, suc, List, [], ◌∷◌, map, sym, subst}
 use Rattle.std.specs.Prelude.{Option}
 use Rattle.std.specs.List.{AllByRecursion}
-use Rattle.ak_syntax.specs.declared.script.Prefix.{Prefix}
-use Rattle.ak_syntax.specs.declared.script.Statement.{Statement}
-use Rattle.ak_syntax.specs.declared.script.Proc.{Proc}
-use Rattle.ak_syntax.specs.declared.statement.Stmt.{Stmt}
-use Rattle.ak_syntax.specs.declared.statement.Stmt.TheVariants.{Print}
+use Rattle.ak_script.specs.declared.script.Prefix.{Prefix}
+use Rattle.ak_script.specs.declared.script.Statement.{Statement}
+use Rattle.ak_script.specs.declared.script.Proc.{Proc}
+use Rattle.ak_script.specs.declared.statement.Stmt.{Stmt}
+use Rattle.ak_script.specs.declared.statement.Stmt.TheVariants.{Print}
 use Rattle.ak_syntax.specs.Grammar.{IsBuilt as IsBuiltScript, IsBuiltStatement, IsBuiltStmt, locals}
-use Rattle.ak_valid.specs.Programs.{NumProgram}
+use Rattle.ak_program.specs.Programs.{NumProgram}
 use Rattle.ak_valid.specs.Numbered.{numbered, main_of, proc_names, numbered_proc, numbered_prefix, numbered_statement, numbered_stmt}
 use Rattle.ak_machine.specs.Job.{lines_of}
 use Rattle.ak_cycle.specs.Printing.{IsBare, IsPrintStmt, IsBuilt, IsBuiltProgram}

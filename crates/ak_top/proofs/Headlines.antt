@@ -4,9 +4,9 @@ use Rattle.ak_trace.specs.declared.entry.Entry.{Entry}
 use Rattle.ak_history.specs.declared.event.Event.{Event}
 use Rattle.ak_history.specs.Legal.{Legal}
 use Rattle.ak_history.specs.Scheduler.{asks, replies}
-use Rattle.ak_syntax.specs.declared.script.Proc.{Proc}
-use Rattle.ak_valid.specs.declared.program.NumProc.{NumProc}
-use Rattle.ak_valid.specs.Programs.{NumProgram}
+use Rattle.ak_script.specs.declared.script.Proc.{Proc}
+use Rattle.ak_program.specs.declared.program.NumProc.{NumProc}
+use Rattle.ak_program.specs.Programs.{NumProgram}
 use Rattle.ak_valid.specs.Numbered.{numbered, main_of}
 use Rattle.ak_machine.specs.declared.config.Config.{Config}
 use Rattle.ak_machine.specs.Run.{run_of}

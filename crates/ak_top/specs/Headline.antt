@@ -9,7 +9,7 @@ use Rattle.ak_history.specs.declared.event.Event.{Event}
 use Rattle.ak_history.specs.Events.{handed, begun}
 use Rattle.ak_history.specs.Legal.{Legal}
 use Rattle.ak_history.specs.Scheduler.{asks, replies}
-use Rattle.ak_syntax.specs.declared.script.Proc.{Proc}
+use Rattle.ak_script.specs.declared.script.Proc.{Proc}
 use Rattle.ak_syntax.specs.Grammar.{Reads, IsBuilt}
 use Rattle.ak_valid.specs.Valid.{Valid}
 use Rattle.ak_valid.specs.Numbered.{numbered, main_of}

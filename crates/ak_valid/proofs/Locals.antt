@@ -4,25 +4,26 @@ use Rattle.std.proofs.lemmas.List.{append-nil, map-append}
 use Rattle.std.specs.List.{AllByRecursion, Any, list_any, find, position_or_len, slice_get, flat_map}
 use Rattle.std.specs.Str.{bytes_eq}
 use Rattle.std.proofs.lemmas.Slice.Eq.{bytes_eq-Decides}
-use Rattle.ak_syntax.specs.declared.script.Kind.{Kind}
-use Rattle.ak_syntax.specs.declared.script.Kind.TheVariants.{Num, Ivar, Def}
-use Rattle.ak_syntax.specs.declared.script.Param.{Param}
-use Rattle.ak_syntax.specs.declared.script.Prefix.{Prefix}
-use Rattle.ak_syntax.specs.declared.script.Statement.{Statement}
-use Rattle.ak_syntax.specs.declared.script.Proc.{Proc}
-use Rattle.ak_syntax.specs.declared.statement.Atom.{Atom}
-use Rattle.ak_syntax.specs.declared.statement.Stmt.{Stmt}
-use Rattle.ak_syntax.specs.declared.statement.Stmt.TheVariants.{Print}
+use Rattle.ak_script.specs.declared.script.Kind.{Kind}
+use Rattle.ak_script.specs.declared.script.Kind.TheVariants.{Num, Ivar, Def}
+use Rattle.ak_script.specs.declared.script.Param.{Param}
+use Rattle.ak_script.specs.declared.script.Prefix.{Prefix}
+use Rattle.ak_script.specs.declared.script.Statement.{Statement}
+use Rattle.ak_script.specs.declared.script.Proc.{Proc}
+use Rattle.ak_script.specs.declared.statement.Atom.{Atom}
+use Rattle.ak_script.specs.declared.statement.Stmt.{Stmt}
+use Rattle.ak_script.specs.declared.statement.Stmt.TheVariants.{Print}
 use Rattle.ak_syntax.specs.Table.{binds}
 use Rattle.ak_syntax.specs.Grammar.{locals, IsBuiltStmt, IsBuiltStatement}
 use Rattle.ak_valid.specs.Numbered.{at, param_names, proc_names, numbered_atom, numbered_statement, numbered_param, numbered_proc}
 use Rattle.ak_valid.specs.Uses.{Use, local, uses, callees, number}
-use Rattle.ak_valid.specs.Valid.{local_named, proc_named, Serves, IsKnown, prefix_uses, StatementIsValid, LinesAreValid, ProcIsValid, AreDistinct}
+use Rattle.ak_script.specs.Kinds.{Serves}
+use Rattle.ak_valid.specs.Valid.{local_named, proc_named, IsKnown, prefix_uses, StatementIsValid, LinesAreValid, ProcIsValid, AreDistinct}
 use Rattle.ak_valid.proofs.Naming.{any_mapped, place_mapped, all_at, all_push, take_next, take_round}
-use Rattle.ak_valid.specs.declared.program.NumStatement.{NumStatement}
-use Rattle.ak_valid.specs.declared.program.NumProc.{NumProc}
-use Rattle.ak_valid.specs.declared.statement.NumAtom.{NumAtom}
-use Rattle.ak_valid.specs.declared.statement.NumStmt.TheVariants as by_place
+use Rattle.ak_program.specs.declared.program.NumStatement.{NumStatement}
+use Rattle.ak_program.specs.declared.program.NumProc.{NumProc}
+use Rattle.ak_program.specs.declared.statement.NumAtom.{NumAtom}
+use Rattle.ak_program.specs.declared.statement.NumStmt.TheVariants as by_place
 
 -- what passes is found, at its place
 pub record Found {A : Type 0} (p : A → Bool) (xs : List A) : Type 0 where

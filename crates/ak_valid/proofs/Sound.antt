@@ -4,23 +4,24 @@ use Rattle.std.proofs.lemmas.List.{append-nil, map-append}
 use Rattle.std.specs.Prelude.{codes, nat_eq, IsTrue}
 use Rattle.std.specs.List.{AllByRecursion, Any, list_any, find, position_or_len, slice_get, range_with_len}
 use Rattle.std.specs.Str.{bytes_eq}
-use Rattle.ak_syntax.specs.declared.script.Kind.{Kind}
-use Rattle.ak_syntax.specs.declared.script.Kind.TheVariants.{Num, Ivar, Def}
-use Rattle.ak_syntax.specs.declared.script.Param.{Param}
-use Rattle.ak_syntax.specs.declared.script.Prefix.{Prefix}
-use Rattle.ak_syntax.specs.declared.script.Statement.{Statement}
-use Rattle.ak_syntax.specs.declared.script.Proc.{Proc}
-use Rattle.ak_syntax.specs.declared.statement.Atom.{Atom}
-use Rattle.ak_syntax.specs.declared.statement.Atom.TheVariants.{Literal, Local}
-use Rattle.ak_syntax.specs.declared.statement.Stmt.{Stmt}
-use Rattle.ak_syntax.specs.declared.statement.Stmt.TheVariants.{Print}
+use Rattle.ak_script.specs.declared.script.Kind.{Kind}
+use Rattle.ak_script.specs.declared.script.Kind.TheVariants.{Num, Ivar, Def}
+use Rattle.ak_script.specs.declared.script.Param.{Param}
+use Rattle.ak_script.specs.declared.script.Prefix.{Prefix}
+use Rattle.ak_script.specs.declared.script.Statement.{Statement}
+use Rattle.ak_script.specs.declared.script.Proc.{Proc}
+use Rattle.ak_script.specs.declared.statement.Atom.{Atom}
+use Rattle.ak_script.specs.declared.statement.Atom.TheVariants.{Literal, Local}
+use Rattle.ak_script.specs.declared.statement.Stmt.{Stmt}
+use Rattle.ak_script.specs.declared.statement.Stmt.TheVariants.{Print}
 use Rattle.ak_syntax.specs.Grammar.{locals, IsBuilt, IsBuiltStmt, IsBuiltStatement}
-use Rattle.ak_valid.specs.declared.program.NumParam.{NumParam}
-use Rattle.ak_valid.specs.declared.program.NumProc.{NumProc}
+use Rattle.ak_program.specs.declared.program.NumParam.{NumParam}
+use Rattle.ak_program.specs.declared.program.NumProc.{NumProc}
 use Rattle.ak_valid.specs.Numbered.{at, param_names, proc_names, numbered, main_of, numbered_atom, numbered_prefix, numbered_stmt, numbered_statement, numbered_param, numbered_proc}
-use Rattle.ak_valid.specs.Programs.{ProgramIsSound, ProcIsSound, LinesAreSound, StatementIsSound, AreNext, IsKnown as IsKnownAt, number as number_at, local as local_at, num_uses, num_binds, prefix_uses}
+use Rattle.ak_program.specs.Programs.{ProgramIsSound, ProcIsSound, LinesAreSound, StatementIsSound, AreNext, IsKnown as IsKnownAt, number as number_at, local as local_at, num_uses, num_binds, prefix_uses}
 use Rattle.ak_valid.specs.Uses.{local, number}
-use Rattle.ak_valid.specs.Valid.{local_named, proc_named, Serves, IsKnown, StatementIsValid, LinesAreValid, ProcIsValid, HasMain, AreDistinct, Valid}
+use Rattle.ak_script.specs.Kinds.{Serves}
+use Rattle.ak_valid.specs.Valid.{local_named, proc_named, IsKnown, StatementIsValid, LinesAreValid, ProcIsValid, HasMain, AreDistinct, Valid}
 use Rattle.ak_valid.proofs.Naming.{any_mapped, place_mapped, distinct_refused}
 use Rattle.ak_valid.proofs.Locals.{Found, find_at, find_none, Placed, local_there, local_absent, num_known, lines_to_all, built_locals, proc_parts, print_needs, same_name, some_is}
 

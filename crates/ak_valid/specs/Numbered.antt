@@ -4,29 +4,29 @@ use Rattle.std.specs.List.{position_or_len}
 use Rattle.std.specs.Str.{bytes_eq}
 use Rattle.ak_labor.specs.declared.work.WorkKind.{WorkKind}
 use Rattle.ak_labor.specs.declared.work.WorkKind.TheVariants as work
-use Rattle.ak_syntax.specs.declared.script.Param.{Param}
-use Rattle.ak_syntax.specs.declared.script.Prefix.{Prefix}
-use Rattle.ak_syntax.specs.declared.script.Prefix.TheVariants.{If, Unless}
-use Rattle.ak_syntax.specs.declared.script.Statement.{Statement}
-use Rattle.ak_syntax.specs.declared.script.Proc.{Proc}
-use Rattle.ak_syntax.specs.declared.statement.Atom.{Atom}
-use Rattle.ak_syntax.specs.declared.statement.Atom.TheVariants.{Literal, Local}
-use Rattle.ak_syntax.specs.declared.statement.Choice.{Choice}
-use Rattle.ak_syntax.specs.declared.statement.WorkWord.{WorkWord}
-use Rattle.ak_syntax.specs.declared.statement.WorkWord.TheVariants.{Square, Mix, Fail}
-use Rattle.ak_syntax.specs.declared.statement.Stmt.{Stmt}
-use Rattle.ak_syntax.specs.declared.statement.Stmt.TheVariants as by_name
+use Rattle.ak_script.specs.declared.script.Param.{Param}
+use Rattle.ak_script.specs.declared.script.Prefix.{Prefix}
+use Rattle.ak_script.specs.declared.script.Prefix.TheVariants.{If, Unless}
+use Rattle.ak_script.specs.declared.script.Statement.{Statement}
+use Rattle.ak_script.specs.declared.script.Proc.{Proc}
+use Rattle.ak_script.specs.declared.statement.Atom.{Atom}
+use Rattle.ak_script.specs.declared.statement.Atom.TheVariants.{Literal, Local}
+use Rattle.ak_script.specs.declared.statement.Choice.{Choice}
+use Rattle.ak_script.specs.declared.statement.WorkWord.{WorkWord}
+use Rattle.ak_script.specs.declared.statement.WorkWord.TheVariants.{Square, Mix, Fail}
+use Rattle.ak_script.specs.declared.statement.Stmt.{Stmt}
+use Rattle.ak_script.specs.declared.statement.Stmt.TheVariants as by_name
 use Rattle.ak_syntax.specs.Grammar.{locals}
-use Rattle.ak_valid.specs.declared.program.NumPrefix.{NumPrefix}
-use Rattle.ak_valid.specs.declared.program.NumPrefix.TheVariants as num_prefix
-use Rattle.ak_valid.specs.declared.program.NumParam.{NumParam}
-use Rattle.ak_valid.specs.declared.program.NumStatement.{NumStatement}
-use Rattle.ak_valid.specs.declared.program.NumProc.{NumProc}
-use Rattle.ak_valid.specs.declared.statement.NumAtom.{NumAtom}
-use Rattle.ak_valid.specs.declared.statement.NumAtom.TheVariants as num_atom
-use Rattle.ak_valid.specs.declared.statement.NumChoice.{NumChoice}
-use Rattle.ak_valid.specs.declared.statement.NumStmt.{NumStmt}
-use Rattle.ak_valid.specs.declared.statement.NumStmt.TheVariants as by_place
+use Rattle.ak_program.specs.declared.program.NumPrefix.{NumPrefix}
+use Rattle.ak_program.specs.declared.program.NumPrefix.TheVariants as num_prefix
+use Rattle.ak_program.specs.declared.program.NumParam.{NumParam}
+use Rattle.ak_program.specs.declared.program.NumStatement.{NumStatement}
+use Rattle.ak_program.specs.declared.program.NumProc.{NumProc}
+use Rattle.ak_program.specs.declared.statement.NumAtom.{NumAtom}
+use Rattle.ak_program.specs.declared.statement.NumAtom.TheVariants as num_atom
+use Rattle.ak_program.specs.declared.statement.NumChoice.{NumChoice}
+use Rattle.ak_program.specs.declared.statement.NumStmt.{NumStmt}
+use Rattle.ak_program.specs.declared.statement.NumStmt.TheVariants as by_place
 
 -- the place of a name, the first where it stands
 abbrev pub at : List (List ℕ) → List ℕ → ℕ

@@ -1,11 +1,11 @@
 -- What each statement wants of its locals and of the procedures that it calls.
 use Rattle.std.specs.Prelude.{ℕ, List, [], ◌∷◌, ◌++◌, map, length}
-use Rattle.ak_syntax.specs.declared.script.Kind.{Kind}
-use Rattle.ak_syntax.specs.declared.script.Kind.TheVariants as of_kind
-use Rattle.ak_syntax.specs.declared.statement.Atom.{Atom}
-use Rattle.ak_syntax.specs.declared.statement.Atom.TheVariants.{Literal, Local}
-use Rattle.ak_syntax.specs.declared.statement.Stmt.{Stmt}
-use Rattle.ak_syntax.specs.declared.statement.Stmt.TheVariants.{Set, Print, Fill, Offer, Upon, Bind, All, Any, Choose, Sched, Low, After, Event, Abort, Tick, Within, Detach, OnError, NextError, Raise, Send, Try, Enqueue, ThrottleDone, Write, Put, Read, Close, CloseRead, Flushed, Work, HelperWork, HelperDone, Ret}
+use Rattle.ak_script.specs.declared.script.Kind.{Kind}
+use Rattle.ak_script.specs.declared.script.Kind.TheVariants as of_kind
+use Rattle.ak_script.specs.declared.statement.Atom.{Atom}
+use Rattle.ak_script.specs.declared.statement.Atom.TheVariants.{Literal, Local}
+use Rattle.ak_script.specs.declared.statement.Stmt.{Stmt}
+use Rattle.ak_script.specs.declared.statement.Stmt.TheVariants.{Set, Print, Fill, Offer, Upon, Bind, All, Any, Choose, Sched, Low, After, Event, Abort, Tick, Within, Detach, OnError, NextError, Raise, Send, Try, Enqueue, ThrottleDone, Write, Put, Read, Close, CloseRead, Flushed, Work, HelperWork, HelperDone, Ret}
 
 -- a local that is used, and the kinds that serve there
 pub record Use : Type 0 where

@@ -2,15 +2,16 @@
 use Rattle.std.specs.Prelude.{◌≡◌, ◌≢◌, ◌⊎◌, ℕ, ◌≤◌, Option, Some, None, List, [], ◌∷◌, ◌++◌, map, length, take, drop, codes, MatchOption}
 use Rattle.std.specs.List.{AllByRecursion, Any, AllZip, find}
 use Rattle.std.specs.Str.{bytes_eq}
-use Rattle.ak_syntax.specs.declared.script.Kind.{Kind}
-use Rattle.ak_syntax.specs.declared.script.Kind.TheVariants as of_kind
-use Rattle.ak_syntax.specs.declared.script.Param.{Param}
-use Rattle.ak_syntax.specs.declared.script.Prefix.{Prefix}
-use Rattle.ak_syntax.specs.declared.script.Prefix.TheVariants.{If, Unless}
-use Rattle.ak_syntax.specs.declared.script.Statement.{Statement}
-use Rattle.ak_syntax.specs.declared.script.Proc.{Proc}
-use Rattle.ak_syntax.specs.declared.statement.Atom.{Atom}
-use Rattle.ak_syntax.specs.declared.statement.Atom.TheVariants.{Literal, Local}
+use Rattle.ak_script.specs.Kinds.{Serves}
+use Rattle.ak_script.specs.declared.script.Kind.{Kind}
+use Rattle.ak_script.specs.declared.script.Kind.TheVariants as of_kind
+use Rattle.ak_script.specs.declared.script.Param.{Param}
+use Rattle.ak_script.specs.declared.script.Prefix.{Prefix}
+use Rattle.ak_script.specs.declared.script.Prefix.TheVariants.{If, Unless}
+use Rattle.ak_script.specs.declared.script.Statement.{Statement}
+use Rattle.ak_script.specs.declared.script.Proc.{Proc}
+use Rattle.ak_script.specs.declared.statement.Atom.{Atom}
+use Rattle.ak_script.specs.declared.statement.Atom.TheVariants.{Literal, Local}
 use Rattle.ak_syntax.specs.Table.{binds}
 use Rattle.ak_syntax.specs.Grammar.{locals}
 use Rattle.ak_valid.specs.Uses.{Use, Callee, uses, callees, number, local}
@@ -27,10 +28,6 @@ proc_named procs name = find (λ proc. bytes_eq name proc.name) procs
 -- the first local of the name
 abbrev pub local_named : List Param → List ℕ → Option Param
 local_named known name = find (λ param. bytes_eq name param.name) known
-
--- a local of the one kind may stand where the other is wanted: an ivar may be used as a deferred
-abbrev pub Serves : Kind → Kind → Type 0
-Serves kind wanted = (kind ≡ wanted) ⊎ ((kind ≡ of_kind.Ivar) × (wanted ≡ of_kind.Def))
 
 -- a local of the name is known, and its kind serves
 abbrev pub IsKnown : List Param → Use → Type 0

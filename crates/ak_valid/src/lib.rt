@@ -2,9 +2,7 @@
 #![tactic(auto)]
 
 mod names;
-pub mod program;
 pub mod refusal;
-pub mod statement;
 #[cfg(test)]
 mod tests;
 pub mod validate;

@@ -3,7 +3,7 @@
 ghost use Rattle.std.specs.Prelude.{◌≡◌, ◌<◌, ◌↔◌, ℕ, List, [], true, map, length, slice_get, option_map, IfOk, IsTrue};
 ghost use Rattle.std.specs.List.{AllByRecursion, list_any};
 ghost use Rattle.std.specs.Str.{bytes_eq};
-ghost use Rattle.ak_syntax.specs.declared.script.Proc.{Proc};
+ghost use Rattle.ak_script.specs.declared.script.Proc.{Proc};
 ghost use Rattle.ak_syntax.specs.Grammar.{IsBuilt, IsBuiltStatement};
 ghost use Rattle.ak_valid.specs.Numbered.{numbered, main_of, proc_names, param_names, numbered_proc, numbered_param, numbered_statement, numbered_atom};
 ghost use Rattle.ak_valid.specs.Refusals.{Gives};
@@ -11,12 +11,12 @@ ghost use Rattle.ak_valid.specs.Uses.{number};
 ghost use Rattle.ak_valid.specs.Valid.{Valid, AreDistinct, HasMain, ProcIsValid, LinesAreValid, StatementIsValid, IsKnown};
 
 use crate::names::Names;
-use crate::program::{NumParam, NumProc, NumStatement, Program};
 use crate::refusal::ValidRefused;
-use crate::statement::{NumAtom, NumStmt};
 use ak_base::list::{Items, NoMemory};
-use ak_syntax::script::{Kind, Param, Proc, Script, Statement};
-use ak_syntax::statement::{Atom, Stmt};
+use ak_program::program::{NumParam, NumProc, NumStatement, Program};
+use ak_program::statement::{NumAtom, NumStmt};
+use ak_script::script::{Kind, Param, Proc, Script, Statement};
+use ak_script::statement::{Atom, Stmt};
 use std::alloc::Global;
 
 /// The program of a script. It is refused exactly where the script is not valid, as line 0 and kind 10.

@@ -1,8 +1,8 @@
 use Rattle.std.proofs.Common.{◌≡◌, ◌+◌, ◌≤◌, ◌<◌, Some, None, Option, List, ℕ, ◌∷◌, [], ◌++◌, refl, sym, ◌∙◌, subst, ap, length, not, true, false, arith}
 use Rattle.std.proofs.lemmas.Result.{err_from_is_err_and}
 use Rattle.ak_text.specs.Lines.{TextLine, text_lines}
-use Rattle.ak_syntax.specs.declared.script.Proc.{Proc}
-use Rattle.ak_syntax.specs.declared.script.Form.{Form}
+use Rattle.ak_script.specs.declared.script.Proc.{Proc}
+use Rattle.ak_syntax.specs.declared.line_form.Form.{Form}
 use Rattle.ak_syntax.specs.Grammar.{Reads, IsBuilt, IsBuiltLine, counts, forms}
 use Rattle.ak_syntax.specs.Reading.{so_far, IsWhole}
 use Rattle.ak_syntax.proofs.Finding.{refused_here, refused_with}

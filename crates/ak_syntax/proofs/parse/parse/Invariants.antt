@@ -1,7 +1,7 @@
 use Rattle.std.proofs.Common.{◌≡◌, List, ◌++◌}
 use Rattle.std.specs.List.{AllZip, filter}
 use Rattle.ak_text.specs.Lines.{text_lines}
-use Rattle.ak_syntax.specs.declared.script.Form.{Form}
+use Rattle.ak_syntax.specs.declared.line_form.Form.{Form}
 use Rattle.ak_syntax.specs.Grammar.{IsBuiltLine, counts}
 use Rattle.ak_syntax.specs.Reading.{so_far, IsUnderWay}
 use Rattle.ak_syntax.proofs.parse.parse.Given as goal

@@ -3,7 +3,7 @@ use Rattle.std.specs.List.{find, position}
 use Rattle.std.specs.Str.{bytes_eq}
 use Rattle.std.proofs.lemmas.Grind.{common_steps}
 use Rattle.std.proofs.lemmas.Result.{err_from_is_err_and}
-use Rattle.ak_syntax.specs.declared.script.Param.{Param}
+use Rattle.ak_script.specs.declared.script.Param.{Param}
 use Rattle.ak_syntax.specs.Names.{kind_word, all_kinds, is_colon}
 use Rattle.ak_syntax.specs.Refusals.{Finds}
 use Rattle.ak_syntax.specs.Table.{Stands, Named, Typed}

@@ -1,5 +1,5 @@
 use Rattle.std.proofs.Common.{ap, ◌∙◌}
-use Rattle.ak_valid.specs.Programs.{NumProgram}
+use Rattle.ak_program.specs.Programs.{NumProgram}
 use Rattle.ak_top.specs.Idle.{IdlePool}
 use Rattle.ak_top.proofs.Building.{program_is_built}
 use Rattle.ak_top.proofs.Headlines.{runs_to}

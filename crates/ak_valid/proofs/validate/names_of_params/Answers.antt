@@ -1,7 +1,7 @@
 use Rattle.std.proofs.Common.{◌≡◌, List, ℕ, take, arith}
 use Rattle.std.proofs.lemmas.List.{take_all}
 use Rattle.std.proofs.lemmas.Result.{err_from_is_err_and}
-use Rattle.ak_syntax.specs.declared.script.Param.{Param}
+use Rattle.ak_script.specs.declared.script.Param.{Param}
 use Rattle.ak_valid.specs.Numbered.{param_names}
 use Rattle.ak_valid.specs.Valid.{AreDistinct}
 use Rattle.ak_valid.proofs.Giving.{refused_here}

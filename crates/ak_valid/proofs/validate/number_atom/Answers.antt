@@ -1,13 +1,13 @@
 use Rattle.std.proofs.Common.{◌≡◌, ◌<◌, Some, None, List, ℕ, length, refl, sym, ap, arith, option_map, ◌∙◌}
 use Rattle.std.specs.List.{AllByRecursion, slice_get}
-use Rattle.ak_syntax.specs.declared.script.Kind.{Kind}
-use Rattle.ak_syntax.specs.declared.script.Kind.TheVariants.{Num}
-use Rattle.ak_syntax.specs.declared.script.Param.{Param}
-use Rattle.ak_syntax.specs.declared.statement.Atom.TheVariants.{Local}
+use Rattle.ak_script.specs.declared.script.Kind.{Kind}
+use Rattle.ak_script.specs.declared.script.Kind.TheVariants.{Num}
+use Rattle.ak_script.specs.declared.script.Param.{Param}
+use Rattle.ak_script.specs.declared.statement.Atom.TheVariants.{Local}
 use Rattle.ak_valid.specs.Uses.{number}
 use Rattle.ak_valid.specs.Valid.{IsKnown}
 use Rattle.ak_valid.specs.Numbered.{at, numbered_atom}
-use Rattle.ak_valid.specs.declared.statement.NumAtom.TheVariants as num_atom
+use Rattle.ak_program.specs.declared.statement.NumAtom.TheVariants as num_atom
 use Rattle.ak_valid.proofs.Giving.{refused_here}
 use Rattle.ak_valid.proofs.Locals.{local_there, local_absent, known_num, num_known, unknown, some_is}
 use Rattle.ak_valid.proofs.validate.number_atom.Goals as goal

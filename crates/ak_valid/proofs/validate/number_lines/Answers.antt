@@ -2,9 +2,9 @@ use Rattle.std.proofs.Common.{◌≡◌, List, [], ℕ, take, map, refl, sym, ap
 use Rattle.std.proofs.lemmas.List.{take_all}
 use Rattle.std.proofs.lemmas.Result.{err_from_is_err_and}
 use Rattle.std.specs.List.{AllByRecursion}
-use Rattle.ak_syntax.specs.declared.script.Param.{Param}
-use Rattle.ak_syntax.specs.declared.script.Proc.{Proc}
-use Rattle.ak_syntax.specs.declared.script.Statement.{Statement}
+use Rattle.ak_script.specs.declared.script.Param.{Param}
+use Rattle.ak_script.specs.declared.script.Proc.{Proc}
+use Rattle.ak_script.specs.declared.script.Statement.{Statement}
 use Rattle.ak_syntax.specs.Grammar.{IsBuiltStatement, locals}
 use Rattle.ak_valid.specs.Valid.{AreDistinct, StatementIsValid, LinesAreValid, ProcIsValid}
 use Rattle.ak_valid.specs.Numbered.{numbered_statement, numbered_param, numbered_proc, param_names, proc_names}

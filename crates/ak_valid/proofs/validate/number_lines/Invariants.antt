@@ -1,6 +1,6 @@
 use Rattle.std.proofs.Common.{◌≡◌, List, ℕ, take, map}
 use Rattle.std.specs.List.{AllByRecursion}
-use Rattle.ak_syntax.specs.declared.script.Proc.{Proc}
+use Rattle.ak_script.specs.declared.script.Proc.{Proc}
 use Rattle.ak_valid.specs.Valid.{StatementIsValid}
 use Rattle.ak_valid.specs.Numbered.{numbered_statement}
 use Rattle.ak_valid.proofs.validate.number_lines.Given as goal

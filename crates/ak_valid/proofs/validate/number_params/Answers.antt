@@ -3,11 +3,11 @@ use Rattle.std.proofs.lemmas.List.{take_all}
 use Rattle.std.proofs.lemmas.Result.{err_from_is_err_and}
 use Rattle.std.specs.List.{AllByRecursion, list_any}
 use Rattle.std.specs.Str.{bytes_eq}
-use Rattle.ak_valid.specs.declared.program.NumParam.{NumParam}
-use Rattle.ak_valid.specs.declared.program.NumProc.{NumProc}
-use Rattle.ak_syntax.specs.declared.script.Param.{Param}
-use Rattle.ak_syntax.specs.declared.script.Proc.{Proc}
-use Rattle.ak_syntax.specs.declared.script.Statement.{Statement}
+use Rattle.ak_program.specs.declared.program.NumParam.{NumParam}
+use Rattle.ak_program.specs.declared.program.NumProc.{NumProc}
+use Rattle.ak_script.specs.declared.script.Param.{Param}
+use Rattle.ak_script.specs.declared.script.Proc.{Proc}
+use Rattle.ak_script.specs.declared.script.Statement.{Statement}
 use Rattle.ak_syntax.specs.Grammar.{IsBuiltStatement, locals}
 use Rattle.ak_valid.specs.Valid.{AreDistinct, StatementIsValid, LinesAreValid, ProcIsValid}
 use Rattle.ak_valid.specs.Numbered.{at, numbered_statement, numbered_param, numbered_proc, param_names, proc_names}

@@ -1,6 +1,6 @@
 use Rattle.std.proofs.Common.{◌≡◌, List, take, map}
 use Rattle.std.specs.List.{AllByRecursion}
-use Rattle.ak_syntax.specs.declared.script.Proc.{Proc}
+use Rattle.ak_script.specs.declared.script.Proc.{Proc}
 use Rattle.ak_valid.specs.Valid.{ProcIsValid}
 use Rattle.ak_valid.specs.Numbered.{numbered_proc}
 use Rattle.ak_valid.proofs.validate.number_procs.Given as goal

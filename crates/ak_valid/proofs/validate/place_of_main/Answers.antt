@@ -1,8 +1,8 @@
 use Rattle.std.proofs.Common.{◌≡◌, Some, None, List, [], ℕ, refl, sym, ap, ◌∙◌, arith, option_map}
 use Rattle.std.specs.Prelude.{codes}
 use Rattle.std.specs.List.{slice_get}
-use Rattle.ak_syntax.specs.declared.script.Param.{Param}
-use Rattle.ak_syntax.specs.declared.script.Proc.{Proc}
+use Rattle.ak_script.specs.declared.script.Param.{Param}
+use Rattle.ak_script.specs.declared.script.Proc.{Proc}
 use Rattle.ak_valid.specs.Valid.{HasMain}
 use Rattle.ak_valid.specs.Numbered.{at, main_of, proc_names}
 use Rattle.ak_valid.proofs.Giving.{refused_here}

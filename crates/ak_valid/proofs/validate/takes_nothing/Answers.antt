@@ -1,5 +1,5 @@
 use Rattle.std.proofs.Common.{length, sym, ap, ◌∙◌}
-use Rattle.ak_syntax.specs.declared.script.Proc.{Proc}
+use Rattle.ak_script.specs.declared.script.Proc.{Proc}
 use Rattle.ak_valid.proofs.Sound.{nothing_taken, item_there}
 use Rattle.ak_valid.proofs.validate.takes_nothing.Goals as goal
 

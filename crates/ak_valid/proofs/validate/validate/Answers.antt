@@ -1,9 +1,9 @@
 use Rattle.std.proofs.Common.{◌≡◌, Some, None, List, [], ℕ, map, refl, sym, ap, ◌∙◌, subst}
 use Rattle.std.proofs.lemmas.Result.{err_from_is_err_and}
 use Rattle.std.specs.List.{AllByRecursion}
-use Rattle.ak_syntax.specs.declared.script.Proc.{Proc}
+use Rattle.ak_script.specs.declared.script.Proc.{Proc}
 use Rattle.ak_valid.specs.Valid.{Valid, HasMain, AreDistinct, ProcIsValid}
-use Rattle.ak_valid.specs.Programs.{NumProgram}
+use Rattle.ak_program.specs.Programs.{NumProgram}
 use Rattle.ak_valid.specs.Numbered.{at, main_of, numbered, numbered_proc, proc_names}
 use Rattle.ak_valid.proofs.Giving.{refused_here, refused_with}
 use Rattle.ak_valid.proofs.Sound.{valid_sound, validated}

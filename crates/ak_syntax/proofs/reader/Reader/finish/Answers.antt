@@ -1,7 +1,7 @@
 use Rattle.std.proofs.Common.{◌≡◌, ◌+◌, ◌≤◌, ◌<◌, Some, None, Option, List, ℕ, ◌∷◌, [], ◌++◌, refl, sym, ◌∙◌, subst, ap, length, arith, false, true, is_some}
 use Rattle.std.proofs.lemmas.Result.{err_from_is_err_and}
-use Rattle.ak_syntax.specs.declared.script.Proc.{Proc}
-use Rattle.ak_syntax.specs.declared.script.Form.TheVariants.{Head, Body, End}
+use Rattle.ak_script.specs.declared.script.Proc.{Proc}
+use Rattle.ak_syntax.specs.declared.line_form.Form.TheVariants.{Head, Body, End}
 use Rattle.ak_syntax.specs.declared.reader.Reader.{Reader}
 use Rattle.ak_syntax.specs.Reading.{TakesForm}
 use Rattle.ak_syntax.specs.Grammar.{forms}

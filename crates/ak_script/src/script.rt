@@ -51,18 +51,6 @@ pub struct Proc {
     pub body: Items<Statement>,
 }
 
-/// A line of a script: the first of a procedure, a statement, or `end`.
-#[derive(Debug, Drop)]
-pub enum Form {
-    Head {
-        name: Word,
-        line: u32,
-        params: Items<Param>,
-    },
-    Body(Statement),
-    End,
-}
-
 /// A script, which contracts see as the list of its procedures.
 #[derive(Debug, Drop)]
 pub struct Script {
@@ -71,7 +59,7 @@ pub struct Script {
 
 impl Model for Script {
     ghost use Rattle.std.specs.Prelude.{List};
-    ghost use Rattle.ak_syntax.specs.declared.script.Proc.{Proc};
+    ghost use Rattle.ak_script.specs.declared.script.Proc.{Proc};
 
     ghost Value = { List Proc };
 

@@ -2,11 +2,11 @@
 
 ghost use Rattle.std.specs.Prelude.{◌≡◌, slice_get};
 ghost use Rattle.std.specs.Option.{option_copied};
-ghost use Rattle.ak_valid.specs.Programs.{ProgramIsSound};
+ghost use Rattle.ak_program.specs.Programs.{ProgramIsSound};
 
 use crate::statement::{NumAtom, NumStmt};
 use ak_base::list::Items;
-use ak_syntax::script::Kind;
+use ak_script::script::Kind;
 use std::marker::Model;
 
 /// The condition before a statement: it runs where the number is not 0, or where it is 0.
@@ -49,7 +49,7 @@ pub struct Program {
 }
 
 impl Model for Program {
-    ghost use Rattle.ak_valid.specs.Programs.{NumProgram, ProgramIsSound};
+    ghost use Rattle.ak_program.specs.Programs.{NumProgram, ProgramIsSound};
 
     ghost Value = { NumProgram };
 

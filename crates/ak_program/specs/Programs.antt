@@ -1,18 +1,18 @@
 -- Valid programs: each local is below the number of locals so far, of a kind that serves, and each call fits.
 use Rattle.std.specs.Prelude.{◌≡◌, ℕ, ◌≤◌, Option, Some, None, List, [], ◌∷◌, ◌++◌, map, length, take, drop, slice_get, MatchOption}
 use Rattle.std.specs.List.{AllByRecursion, AllZip, Any as AnyOf, range_with_len}
-use Rattle.ak_syntax.specs.declared.script.Kind.{Kind}
-use Rattle.ak_syntax.specs.declared.script.Kind.TheVariants as of_kind
-use Rattle.ak_valid.specs.declared.program.NumPrefix.{NumPrefix}
-use Rattle.ak_valid.specs.declared.program.NumPrefix.TheVariants.{If, Unless}
-use Rattle.ak_valid.specs.declared.program.NumParam.{NumParam}
-use Rattle.ak_valid.specs.declared.program.NumStatement.{NumStatement}
-use Rattle.ak_valid.specs.declared.program.NumProc.{NumProc}
-use Rattle.ak_valid.specs.declared.statement.NumAtom.{NumAtom}
-use Rattle.ak_valid.specs.declared.statement.NumAtom.TheVariants.{Literal, Local}
-use Rattle.ak_valid.specs.declared.statement.NumStmt.{NumStmt}
-use Rattle.ak_valid.specs.declared.statement.NumStmt.TheVariants.{Set, Print, Ivar, Fill, Offer, Upon, Bind, All, Any, Choose, Sched, Low, Yield, Never, After, Event, Abort, Tick, Monitor, Within, Detach, OnError, NextError, Raise, Send, Try, Throttle, Enqueue, ThrottleDone, Pipe, Write, Put, Read, Close, CloseRead, Flushed, Work, Helper, HelperWork, HelperDone, Ret}
-use Rattle.ak_valid.specs.Valid.{Serves}
+use Rattle.ak_script.specs.Kinds.{Serves}
+use Rattle.ak_script.specs.declared.script.Kind.{Kind}
+use Rattle.ak_script.specs.declared.script.Kind.TheVariants as of_kind
+use Rattle.ak_program.specs.declared.program.NumPrefix.{NumPrefix}
+use Rattle.ak_program.specs.declared.program.NumPrefix.TheVariants.{If, Unless}
+use Rattle.ak_program.specs.declared.program.NumParam.{NumParam}
+use Rattle.ak_program.specs.declared.program.NumStatement.{NumStatement}
+use Rattle.ak_program.specs.declared.program.NumProc.{NumProc}
+use Rattle.ak_program.specs.declared.statement.NumAtom.{NumAtom}
+use Rattle.ak_program.specs.declared.statement.NumAtom.TheVariants.{Literal, Local}
+use Rattle.ak_program.specs.declared.statement.NumStmt.{NumStmt}
+use Rattle.ak_program.specs.declared.statement.NumStmt.TheVariants.{Set, Print, Ivar, Fill, Offer, Upon, Bind, All, Any, Choose, Sched, Low, Yield, Never, After, Event, Abort, Tick, Monitor, Within, Detach, OnError, NextError, Raise, Send, Try, Throttle, Enqueue, ThrottleDone, Pipe, Write, Put, Read, Close, CloseRead, Flushed, Work, Helper, HelperWork, HelperDone, Ret}
 
 -- a program: its procedures, and the place of `main`
 pub record NumProgram : Type 0 where

@@ -3,7 +3,7 @@
 use ak_base::list::Items;
 use ak_base::number::Num;
 use ak_labor::work::WorkKind;
-use ak_syntax::statement::Operator;
+use ak_script::statement::Operator;
 
 /// A number, or a local by its place.
 #[derive(Clone, Copy, PartialEq, Eq, Debug)]

@@ -1,0 +1,16 @@
+//! What a line of a script is.
+
+use ak_base::list::{Items, Word};
+use ak_script::script::{Param, Statement};
+
+/// A line of a script: the first of a procedure, a statement, or `end`.
+#[derive(Debug, Drop)]
+pub enum Form {
+    Head {
+        name: Word,
+        line: u32,
+        params: Items<Param>,
+    },
+    Body(Statement),
+    End,
+}
