@@ -2,3 +2,5 @@
 #![tactic(auto)]
 
 pub mod job;
+pub mod law;
+pub mod rings;
