@@ -9,7 +9,7 @@ use crate::steps::Steps;
 use crate::sweep::{rename_names, rename_registrations, wake, withdraw};
 use ak_base::list::NoMemory;
 use ak_base::number::{Ctx, IvarNo, Num, RegNo};
-use std::alloc::Global;
+use std::alloc::{AllocError, Global};
 use std::collections::VecDeque;
 use std::marker::Model;
 use std::sync::ledger::Ledger;
@@ -61,7 +61,8 @@ impl<F> Cells<F> {
         }
     }
 
-    /// Makes room for so many more ivars and handlers.
+    /// Makes room for so many more ivars and handlers, and sees that there are numbers for them: fewer than
+    /// 4,294,967,296 are drawn of each.
     ///
     /// # Errors
     ///
@@ -69,10 +70,15 @@ impl<F> Cells<F> {
     pub fn reserve(&mut self, ivars: u32, handlers: u32) -> Result<(), NoMemory>
         ensures ivars { OnOk result (ivars ≤ self.new.spare_ivars) }
         ensures handlers { OnOk result (handlers ≤ self.new.spare_handlers) }
+        ensures ivar_numbers { OnOk result (length self.old.named.cells.ivars + ivars < 2 ^ 32) }
+        ensures handler_numbers { OnOk result (self.old.named.cells.next + handlers < 2 ^ 32) }
         ensures named { self.new.named ≡ self.old.named }
         ensures more_ivars { self.old.spare_ivars ≤ self.new.spare_ivars }
         ensures more_handlers { self.old.spare_handlers ≤ self.new.spare_handlers }
     {
+        if self.ivars.len() > (u32::MAX - ivars) as usize || self.next > u32::MAX - handlers {
+            return Err(AllocError);
+        }
         self.ivars.reserve(ivars as usize)?;
         self.names.reserve(ivars as usize)?;
         self.registrations.reserve(handlers as usize)?;

@@ -6,7 +6,7 @@ ghost use Rattle.ak_rings.specs.Queues.{no_jobs, with_job, pick_of, has_pick, pi
 use crate::job::Job;
 use ak_base::list::NoMemory;
 use ak_base::number::{Ctx, JobNo};
-use std::alloc::Global;
+use std::alloc::{AllocError, Global};
 use std::collections::VecDeque;
 use std::marker::Model;
 
@@ -61,16 +61,21 @@ impl<F> Rings<F> {
         }
     }
 
-    /// Makes room for `n` more jobs in each queue.
+    /// Makes room for `n` more jobs in each queue, and sees that there are numbers for them: fewer than
+    /// 18,446,744,073,709,551,616 are drawn.
     ///
     /// # Errors
     ///
     /// `NoMemory`. The queues are then as before, and have no less room.
     pub fn reserve(&mut self, n: u32) -> Result<(), NoMemory>
         ensures room { OnOk result (n ≤ self.new.spare) }
+        ensures numbers { OnOk result (self.old.queues.next + n < 2 ^ 64) }
         ensures queues { self.new.queues ≡ self.old.queues }
         ensures spare { self.old.spare ≤ self.new.spare }
     {
+        if self.next > u64::MAX - n as u64 {
+            return Err(AllocError);
+        }
         self.normal.reserve(n as usize)?;
         self.low.reserve(n as usize)?;
         Ok(())

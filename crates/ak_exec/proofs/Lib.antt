@@ -1,0 +1,9 @@
+mod Stands
+mod Locals
+mod Values
+mod Fitting
+mod Typed
+mod Lists
+mod Way
+mod Picks
+mod Whole

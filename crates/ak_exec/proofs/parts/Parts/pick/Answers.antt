@@ -1,0 +1,16 @@
+use Rattle.std.proofs.Common.{◌≡◌, ap, sym, ◌∙◌, rules}
+use Rattle.std.specs.Option.{option_map}
+use Rattle.ak_cells.specs.Names.{name_in, trimmed}
+use Rattle.ak_machine.specs.Mapped.{job_mapped}
+use Rattle.ak_exec.specs.Seen.{Seen, seen}
+use Rattle.ak_exec.proofs.Picks.{pick_mapped}
+use Rattle.ak_exec.proofs.Stands.{seen_pick}
+use Rattle.ak_exec.proofs.parts.Parts.pick.Goals as goal
+
+pub returns-clause-job : goal.returns-clause-job
+returns-clause-job c =
+    rw (← c.self.view_is, c.pick.ensures.job) (sym (pick_mapped (name_in (trimmed c.self.inside.cells.named.names)) c.self.inside.queues.queues))
+
+pub returns-clause-parts : goal.returns-clause-parts
+returns-clause-parts c =
+    rw (← c.self.view_is, c.pick.ensures.queues) (seen_pick c.self.inside.cells.named c.self.inside.queues.queues c.self.inside.trace)

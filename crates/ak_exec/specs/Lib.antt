@@ -1,0 +1,6 @@
+pub mod Seen
+pub mod Ready
+pub mod Steps
+pub mod Built
+pub mod Fits
+pub mod Worlds

@@ -1,0 +1,52 @@
+-- What contracts see of a world.
+use Rattle.std.specs.Prelude.{ℕ, ◌+◌, ◌≡◌, List, [], length, false, Option, Some, None, IfSome}
+use Rattle.ak_rings.specs.declared.job.Job.{Job}
+use Rattle.ak_frames.specs.declared.frame.Task.{Task}
+use Rattle.ak_machine.specs.declared.config.Config.{Config}
+use Rattle.ak_frames.specs.declared.frame.Ret.TheVariants.{Drop}
+use Rattle.ak_rings.specs.Queues.{pick_of}
+use Rattle.ak_machine.specs.declared.config.Flow.{Flow}
+use Rattle.ak_machine.specs.State.{State, initial_state}
+use Rattle.ak_machine.specs.Deferred.{called}
+use Rattle.ak_machine.specs.Job.{Over, run_job}
+use Rattle.ak_exec.specs.Seen.{without_pick}
+use Rattle.ak_exec.specs.Steps.{after_is}
+use Rattle.ak_program.specs.Programs.{NumProgram}
+use Rattle.ak_exec.specs.Built.{AreBuilt}
+use Rattle.ak_exec.specs.Fits.{JobFits, Fits}
+
+-- the program and the settings, the plain state, the job that was picked and has not run, and how many jobs were picked
+pub record Worldly : Type 0 where
+  pub program : NumProgram
+  pub config : Config
+  pub plain : State
+  pub picked : Option (Job Task)
+  pub ran : ℕ
+
+-- all that a world holds fits its program, whose statements are built
+pub record IsWhole (w : Worldly) : Type 0 where
+  pub built : AreBuilt w.program.procs
+  pub fits : Fits w.program.procs w.plain
+  pub picked : IfSome w.picked (JobFits w.program.procs (length w.plain.cells.ivars))
+
+-- how many jobs were picked, with one more where there is a pick
+abbrev pub ran_with : {A : Type 0} → Option A → ℕ → ℕ
+ran_with None ran = ran
+ran_with (Some job) ran = ran + 1
+
+-- the next job has left its queue, and waits to run
+abbrev pub with_pick : Worldly → Worldly
+with_pick w =
+    record w { plain = without_pick w.plain; picked = pick_of w.plain.queues; ran = ran_with (pick_of w.plain.queues) w.ran }
+
+-- a world whose state is another
+abbrev pub with_state : State → Worldly → Worldly
+with_state s w = record w { plain = s }
+
+-- the call of `main` waits in the root monitor, at normal priority, and nothing else is there
+abbrev pub first_state : NumProgram → Config → State
+first_state program config = called (record { mon = 0; low = false }) program.main [] Drop (initial_state config.limit)
+
+-- the state and the flow that the job which was picked comes to
+abbrev pub RunsJob : Worldly → Flow → State → Type 0
+RunsJob w flow s = IfSome w.picked (λ job. run_job w.program.procs job w.plain ≡ Over (after_is flow s))

@@ -1,0 +1,263 @@
+//! How a job runs: its statements, its return, and each kind of frame.
+
+ghost use Rattle.std.specs.Prelude.{◌≡◌, ◌≢◌, ◌+◌, ◌<◌, pos, ◌∷◌, length, drop, IfOk, OnOk, IfNone};
+ghost use Rattle.ak_cells.specs.Names.{name_in};
+ghost use Rattle.ak_machine.specs.Effect.{holds};
+ghost use Rattle.ak_machine.specs.Errors.{send as send_of};
+ghost use Rattle.ak_machine.specs.Job.{Over, run_lines as lines_run, run_frame as frame_run, returned as returned_by, lines_of, value_or_zero};
+ghost use Rattle.ak_machine.specs.Mapped.{ret_mapped, frame_mapped, value_mapped};
+ghost use Rattle.ak_machine.specs.Statement.{line_effect};
+ghost use Rattle.ak_exec.specs.Built.{AreBuilt};
+ghost use Rattle.ak_exec.specs.Fits.{Fits, RetFits, CallFits, FrameFits, IsReturned, IsUnderWay};
+ghost use Rattle.ak_exec.specs.Ready.{named, IsReady, IsTold};
+ghost use Rattle.ak_exec.specs.Steps.{Takes, ended_by, after_is, progress_of};
+
+use crate::parts::Parts;
+use crate::statement::{run_statement, Step};
+use ak_base::list::{Items, NoMemory};
+use ak_base::number::{Ctx, IvarNo, Num};
+use ak_frames::frame::{Frame, Ret, Task};
+use ak_frames::value::{Vals, Value};
+use ak_machine::config::Flow;
+use ak_program::program::{NumPrefix, NumStatement, Program};
+use std::alloc::Global;
+
+/// Whether a line's statement is run.
+fn is_run(parts: &Parts, prefix: Option<NumPrefix>, vals: &Vals) -> bool
+    requires { IsTold (named parts.now vals.now) prefix }
+    ensures { result ≡ holds prefix (named parts.now vals.now) }
+{
+    match prefix {
+        None => true,
+        Some(NumPrefix::If(atom)) => parts.number_at(vals, atom) != 0,
+        Some(NumPrefix::Unless(atom)) => parts.number_at(vals, atom) == 0,
+    }
+}
+
+/// One line of a job.
+fn run_line(
+    alloc: Global,
+    parts: &mut Parts,
+    ctx: Ctx,
+    line: &NumStatement,
+    vals: &mut Vals,
+) -> Result<Step, NoMemory>
+    requires told { IsTold (named parts.old vals.old) line.now.prefix }
+    requires ready { IsReady parts.old.plain (named parts.old vals.old) line.now.stmt }
+    ensures takes { IfOk result (λ step. Takes (line_effect ctx line.now parts.old.plain (named parts.old vals.old)) step parts.old parts.new vals.new) }
+    ensures names { OnOk result (parts.new.names ≡ parts.old.names) }
+{
+    if is_run(parts, line.prefix, vals) {
+        run_statement(alloc, parts, ctx, &line.stmt, vals)
+    } else {
+        Ok(Step::Goes)
+    }
+}
+
+/// A number is returned: an empty result is filled.
+fn return_number(parts: &mut Parts, r: IvarNo, num: Num) -> Result<(), NoMemory>
+    requires { name_in parts.old.names r < length parts.old.plain.cells.ivars }
+    ensures { OnOk result (parts.new.plain ≡ returned_by (Ret.To (name_in parts.old.names r)) (Value.Num num) parts.old.plain) }
+{
+    parts.check_drawn(r);
+    match parts.look(r) {
+        None => parts.fill(r, num),
+        Some(_) => Ok(()),
+    }
+}
+
+/// A deferred is returned: it is connected to the result.
+fn return_deferred(parts: &mut Parts, r: IvarNo, i: IvarNo) -> Result<(), NoMemory>
+    requires result { name_in parts.old.names r < length parts.old.plain.cells.ivars }
+    requires deferred { name_in parts.old.names i < length parts.old.plain.cells.ivars }
+    ensures { OnOk result (parts.new.plain ≡ returned_by (Ret.To (name_in parts.old.names r)) (Value.Def (name_in parts.old.names i)) parts.old.plain) }
+{
+    parts.check_drawn(r);
+    parts.check_drawn(i);
+    parts.connect(r, i)
+}
+
+/// A value is returned to a result.
+fn return_value(parts: &mut Parts, r: IvarNo, value: Value) -> Result<(), NoMemory>
+    requires result { name_in parts.old.names r < length parts.old.plain.cells.ivars }
+    requires value { IsReturned (length parts.old.plain.cells.ivars) (value_mapped (name_in parts.old.names) value) }
+    ensures { OnOk result (parts.new.plain ≡ returned_by (Ret.To (name_in parts.old.names r)) (value_mapped (name_in parts.old.names) value) parts.old.plain) }
+{
+    match value {
+        Value::Num(num) => return_number(parts, r, num),
+        Value::Ivar(i) => return_deferred(parts, r, i),
+        Value::Def(i) => return_deferred(parts, r, i),
+        _ => unreachable!(),
+    }
+}
+
+/// A procedure returns.
+fn returned(parts: &mut Parts, ret: Ret, value: Value) -> Result<(), NoMemory>
+    requires ret { RetFits (length parts.old.plain.cells.ivars) (ret_mapped (name_in parts.old.names) ret) }
+    requires value { IsReturned (length parts.old.plain.cells.ivars) (value_mapped (name_in parts.old.names) value) }
+    ensures { OnOk result (parts.new.plain ≡ returned_by (ret_mapped (name_in parts.old.names) ret) (value_mapped (name_in parts.old.names) value) parts.old.plain) }
+{
+    match ret {
+        Ret::Drop => Ok(()),
+        Ret::To(r) => return_value(parts, r, value),
+        _ => unreachable!(),
+    }
+}
+
+/// The end of a job whose lines don't go on.
+fn ended(
+    program: &Program,
+    parts: &mut Parts,
+    ctx: Ctx,
+    ret: Ret,
+    step: Step,
+) -> Result<Flow, NoMemory>
+    requires root { ctx.mon ≡ 0 }
+    requires ret { RetFits (length parts.old.plain.cells.ivars) (ret_mapped (name_in parts.old.names) ret) }
+    requires ends { step ≢ Step.Goes }
+    requires returned { (value : Value) → step ≡ Step.Returns value → IsReturned (length parts.old.plain.cells.ivars) (value_mapped (name_in parts.old.names) value) }
+    requires fits { Fits program.now.procs parts.old.plain }
+    ensures fits { OnOk result (Fits program.now.procs parts.new.plain) }
+    ensures ends { IfOk result (λ flow. ended_by ctx (ret_mapped (name_in parts.old.names) ret) (name_in parts.old.names) step parts.old.plain ≡ after_is flow parts.new.plain) }
+{
+    match step {
+        Step::Goes => unreachable!(),
+        Step::Raises(num) => {
+            parts.send_root(num)?;
+            Ok(Flow::Unhandled(num))
+        }
+        Step::Returns(value) => {
+            returned(parts, ret, value)?;
+            Ok(Flow::On)
+        }
+    }
+}
+
+/// One of the lines runs: `None` where the job goes on with the others.
+fn advance(
+    alloc: Global,
+    program: &Program,
+    parts: &mut Parts,
+    ctx: &Ctx,
+    ret: &Ret,
+    lines: &[NumStatement],
+    k: usize,
+    vals: &mut Vals,
+) -> Result<Option<Flow>, NoMemory>
+    requires way { IsUnderWay program.now.procs parts.old.plain (named parts.old vals.old) ctx.now (ret_mapped (name_in parts.old.names) ret.now) (drop k lines.now) }
+    requires some { k < length lines.now }
+    ensures way { IfOk result (λ next. IfNone next (IsUnderWay program.now.procs parts.new.plain (named parts.new vals.new) ctx.now (ret_mapped (name_in parts.new.names) ret.now) (drop (k + 1) lines.now))) }
+    ensures fits { OnOk result (Fits program.now.procs parts.new.plain) }
+    ensures runs { IfOk result (λ next. lines_run ctx.now (ret_mapped (name_in parts.old.names) ret.now) (drop k lines.now) parts.old.plain (named parts.old vals.old) ≡ progress_of next ctx.now (ret_mapped (name_in parts.new.names) ret.now) (drop (k + 1) lines.now) parts.new.plain (named parts.new vals.new)) }
+{
+    match run_line(alloc, parts, *ctx, &lines[k], vals)? {
+        Step::Goes => Ok(None),
+        step => Ok(Some(ended(program, parts, *ctx, *ret, step)?)),
+    }
+}
+
+/// The lines of a procedure, to its end.
+fn run_lines(
+    alloc: Global,
+    program: &Program,
+    parts: &mut Parts,
+    ctx: &Ctx,
+    ret: &Ret,
+    lines: &[NumStatement],
+    vals: &mut Vals,
+) -> Result<Flow, NoMemory>
+    requires { IsUnderWay program.now.procs parts.old.plain (named parts.old vals.old) ctx.now (ret_mapped (name_in parts.old.names) ret.now) lines.now }
+    ensures fits { OnOk result (Fits program.now.procs parts.new.plain) }
+    ensures runs { IfOk result (λ flow. lines_run ctx.now (ret_mapped (name_in parts.old.names) ret.now) lines.now parts.old.plain (named parts.old vals.old) ≡ Over (after_is flow parts.new.plain)) }
+{
+    for k in 0..lines.len() {
+        match advance(alloc, program, parts, ctx, ret, lines, k, vals) {
+            Ok(None) => {}
+            Ok(Some(flow)) => return Ok(flow),
+            Err(e) => return Err(e),
+        }
+    }
+    returned(parts, *ret, Value::Num(0))?;
+    Ok(Flow::On)
+}
+
+/// The lines of a procedure.
+fn lines_at(program: &Program, proc: usize) -> &[NumStatement]
+    requires { proc < length program.now.procs }
+    ensures { result.now ≡ lines_of program.now.procs proc }
+{
+    match program.proc(proc) {
+        Some(proc) => proc.body.as_slice(),
+        None => unreachable!(),
+    }
+}
+
+/// The values of a frame that waited, with the number that woke it in front.
+fn with_value(value: Option<Num>, vals: Vals) -> Result<Vals, NoMemory>
+    ensures { IfOk result (λ all. all ≡ Value.Num (value_or_zero value) ∷ vals) }
+{
+    let num = match value {
+        Some(num) => num,
+        None => 0,
+    };
+    let mut all = vals.into_vec();
+    all.insert(0, Value::Num(num))?;
+    Ok(Items::from_vec(all))
+}
+
+/// A call of a procedure, to its end.
+fn run_call(
+    alloc: Global,
+    program: &Program,
+    parts: &mut Parts,
+    ctx: Ctx,
+    proc: usize,
+    vals: Vals,
+    ret: Ret,
+) -> Result<Flow, NoMemory>
+    requires built { AreBuilt program.now.procs }
+    requires root { ctx.mon ≡ 0 }
+    requires call { CallFits program.now.procs (length parts.old.plain.cells.ivars) proc (named parts.old vals) }
+    requires ret { RetFits (length parts.old.plain.cells.ivars) (ret_mapped (name_in parts.old.names) ret) }
+    requires fits { Fits program.now.procs parts.old.plain }
+    ensures fits { OnOk result (Fits program.now.procs parts.new.plain) }
+    ensures runs { IfOk result (λ flow. lines_run ctx (ret_mapped (name_in parts.old.names) ret) (lines_of program.now.procs proc) parts.old.plain (named parts.old vals) ≡ Over (after_is flow parts.new.plain)) }
+{
+    let mut vals = vals;
+    let _main = program.main();
+    run_lines(
+        alloc,
+        program,
+        parts,
+        &ctx,
+        &ret,
+        lines_at(program, proc),
+        &mut vals,
+    )
+}
+
+/// A frame, with the number that woke it where it waited for one.
+pub fn run_task(
+    alloc: Global,
+    program: &Program,
+    parts: &mut Parts,
+    ctx: Ctx,
+    task: Task,
+) -> Result<Flow, NoMemory>
+    requires built { AreBuilt program.now.procs }
+    requires root { ctx.mon ≡ 0 }
+    requires frame { FrameFits program.now.procs (length parts.old.plain.cells.ivars) (frame_mapped (name_in parts.old.names) task.frame) }
+    requires fits { Fits program.now.procs parts.old.plain }
+    ensures fits { OnOk result (Fits program.now.procs parts.new.plain) }
+    ensures runs { IfOk result (λ flow. frame_run program.now.procs ctx (frame_mapped (name_in parts.old.names) task.frame) (value_or_zero task.value) parts.old.plain ≡ Over (after_is flow parts.new.plain)) }
+{
+    let Task { frame, value } = task;
+    match frame {
+        Frame::Call { proc, vals, ret } => run_call(alloc, program, parts, ctx, proc, vals, ret),
+        Frame::OnValue { proc, vals, ret } => {
+            let all = with_value(value, vals)?;
+            run_call(alloc, program, parts, ctx, proc, all, ret)
+        }
+        _ => unreachable!(),
+    }
+}

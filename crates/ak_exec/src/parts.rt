@@ -1,0 +1,370 @@
+//! The parts of the scheduler's state together.
+
+ghost use Rattle.std.specs.Prelude.{◌≡◌, ◌<◌, ◌≤◌, [], ◌∷◌, ◌++◌, length, fold, None, OnOk, IfOk, ◌==◌, false, not, ◌&&◌};
+ghost use Rattle.ak_cells.specs.Names.{name_in};
+ghost use Rattle.std.specs.Option.{option_map};
+ghost use Rattle.ak_rings.specs.Queues.{pick_of, has_pick};
+ghost use Rattle.ak_machine.specs.Cycle.{cycle_begun, has_more, is_stuck};
+ghost use Rattle.ak_base.specs.Lists.{is_empty_list};
+ghost use Rattle.ak_machine.specs.declared.config.Flow.{Flow};
+ghost use Rattle.ak_machine.specs.Errors.{send};
+ghost use Rattle.ak_machine.specs.State.{State, initial_state};
+ghost use Rattle.ak_machine.specs.Deferred.{noting, enqueue, with_ivar, number_at as number_at_ivar, fill_empty, register, register_at, connect, connect_at};
+ghost use Rattle.ak_machine.specs.Mapped.{task_mapped, job_mapped, frame_mapped, value_mapped, values_mapped};
+ghost use Rattle.ak_machine.specs.Effect.{value_of, number_in, name_in as name_at, args_of, local};
+ghost use Rattle.ak_exec.specs.Seen.{doing, enqueued_for, with_jobs, root_error, without_pick};
+ghost use Rattle.ak_exec.specs.Ready.{named, IsNumAt, IsDeferredAt, IsBound, AreBound};
+
+use crate::cells;
+use crate::local::{ivar_of, local_at, num_of};
+use ak_base::list::{Items, NoMemory};
+use ak_base::number::{Ctx, IvarNo, MonNo, Num};
+use ak_cells::cells::Cells;
+use ak_cells::registration::{Placed, Woken};
+use ak_frames::frame::{Frame, Task};
+use ak_frames::value::{Vals, Value};
+use ak_program::statement::{NumArgs, NumAtom};
+use ak_rings::job::Job;
+use ak_rings::rings::Rings;
+use ak_trace::entry::{Ending, Entry, Trace};
+use std::alloc::Global;
+use std::marker::Model;
+
+/// The ivars, the jobs that wait, and the trace. Contracts see the plain state that they stand for.
+#[derive(Debug, Drop)]
+pub struct Parts {
+    cells: Cells<Frame>,
+    queues: Rings<Task>,
+    trace: Trace,
+}
+
+impl Model for Parts {
+    ghost use Rattle.ak_exec.specs.Seen.{Seen, seen, IsKept};
+
+    ghost Value = { Seen };
+
+    ghost view = { λ p. seen p.cells.named p.queues.queues p.trace };
+
+    ghost invariant = { λ p. IsKept p.cells.named };
+}
+
+impl Parts {
+    /// No ivar was drawn and no job waits. At most `limit` jobs of a priority run in a cycle.
+    pub fn make(alloc: Global, limit: u32) -> Parts
+        requires { 1 ≤ limit }
+        ensures plain { result.plain ≡ initial_state limit }
+        ensures names { result.names ≡ [] }
+    {
+        Parts {
+            cells: Cells::make(alloc),
+            queues: Rings::make(alloc, limit),
+            trace: Trace::make(alloc),
+        }
+    }
+
+    /// One more entry in the trace.
+    pub fn note(&mut self, entry: Entry) -> Result<(), NoMemory>
+        ensures { OnOk result (self.new ≡ doing (noting entry) self.old) }
+    {
+        self.trace.push(entry)
+    }
+
+    /// A job for the task, last in the queue of its priority.
+    pub fn enqueue(&mut self, ctx: Ctx, task: Task) -> Result<(), NoMemory>
+        ensures { OnOk result (self.new ≡ doing (enqueue ctx (task_mapped (name_in self.old.names) task)) self.old) }
+    {
+        push_job(&mut self.queues, &mut self.trace, ctx, task)?;
+        Ok(())
+    }
+
+    /// A fresh empty ivar, and its number.
+    pub fn fresh(&mut self) -> Result<IvarNo, NoMemory>
+        ensures number { IfOk result (λ i. i ≡ length self.old.plain.cells.ivars) }
+        ensures fresh { OnOk result (self.new ≡ doing with_ivar self.old) }
+        ensures own { IfOk result (λ i. name_in self.old.names i ≡ i) }
+    {
+        self.cells.reserve(1, 0)?;
+        Ok(self.cells.fresh())
+    }
+
+    /// What an ivar is full with.
+    pub fn look(&mut self, i: IvarNo) -> Option<Num>
+        requires { i < length self.old.plain.cells.ivars }
+        ensures number { result ≡ number_at_ivar (name_in self.old.names i) self.old.plain }
+        ensures same { self.new ≡ self.old }
+    {
+        cells::look(&mut self.cells, i)
+    }
+
+    /// The name of an ivar.
+    pub fn name(&mut self, i: IvarNo) -> IvarNo
+        requires { i < length self.old.plain.cells.ivars }
+        ensures name { result ≡ name_in self.old.names i }
+        ensures drawn { result < length self.old.plain.cells.ivars }
+        ensures same { self.new ≡ self.old }
+    {
+        cells::name(&mut self.cells, i)
+    }
+
+    /// The frame waits for an ivar, or is enqueued with its number.
+    pub fn register(&mut self, i: IvarNo, ctx: Ctx, frame: Frame) -> Result<(), NoMemory>
+        requires { i < length self.old.plain.cells.ivars }
+        ensures { OnOk result (self.new ≡ doing (register (name_in self.old.names i) ctx (frame_mapped (name_in self.old.names) frame)) self.old) }
+    {
+        match self.look(i) {
+            Some(num) => self.enqueue(
+                ctx,
+                Task {
+                    frame,
+                    value: Some(num),
+                },
+            ),
+            None => self.keep(i, ctx, frame),
+        }
+    }
+
+    fn keep(&mut self, i: IvarNo, ctx: Ctx, frame: Frame) -> Result<(), NoMemory>
+        requires drawn { i < length self.old.plain.cells.ivars }
+        requires empty { number_at_ivar (name_in self.old.names i) self.old.plain ≡ None }
+        ensures { OnOk result (self.new ≡ doing (register_at None (name_in self.old.names i) ctx (frame_mapped (name_in self.old.names) frame)) self.old) }
+    {
+        self.cells.reserve(0, 1)?;
+        let _placed = cells::register(&mut self.cells, i, ctx, frame);
+        Ok(())
+    }
+
+    /// An empty ivar is filled, and its handlers are enqueued.
+    pub fn fill(&mut self, i: IvarNo, num: Num) -> Result<(), NoMemory>
+        requires drawn { i < length self.old.plain.cells.ivars }
+        requires empty { number_at_ivar (name_in self.old.names i) self.old.plain ≡ None }
+        ensures { OnOk result (self.new ≡ doing (fill_empty (name_in self.old.names i) num) self.old) }
+    {
+        let ivar = cells::name(&mut self.cells, i);
+        self.trace.push(Entry::Fill { ivar, num })?;
+        match cells::fill(&mut self.cells, i, num) {
+            Ok(()) => {}
+            Err(_) => unreachable!(),
+        }
+        wake_all(&mut self.cells, &mut self.queues, &mut self.trace)?;
+        Ok(())
+    }
+
+    /// An error at the root, which nobody catches.
+    pub fn send_root(&mut self, num: Num) -> Result<(), NoMemory>
+        ensures noted { OnOk result (self.new ≡ doing (root_error num) self.old) }
+        ensures sent { OnOk result (send 0 num self.old.plain ≡ record { state = self.new.plain; flow = Flow.Unhandled num }) }
+    {
+        let mon = MonNo::new(0);
+        self.trace.push(Entry::Error { num, mon })?;
+        self.trace.push(Entry::Unhandled { num })?;
+        self.trace.push(Entry::End {
+            why: Ending::Unhandled,
+        })?;
+        Ok(())
+    }
+
+    /// A result takes what another ivar has, or its place.
+    pub fn connect(&mut self, r: IvarNo, i: IvarNo) -> Result<(), NoMemory>
+        requires result_drawn { r < length self.old.plain.cells.ivars }
+        requires right_drawn { i < length self.old.plain.cells.ivars }
+        ensures { OnOk result (self.new.plain ≡ connect (name_in self.old.names r) (name_in self.old.names i) self.old.plain) }
+    {
+        if self.name(r).number() == self.name(i).number() {
+            return Ok(());
+        }
+        match self.look(r) {
+            Some(_) => Ok(()),
+            None => match self.look(i) {
+                Some(num) => self.fill(r, num),
+                None => self.join(r, i),
+            },
+        }
+    }
+
+    fn join(&mut self, r: IvarNo, i: IvarNo) -> Result<(), NoMemory>
+        requires result_drawn { r < length self.old.plain.cells.ivars }
+        requires right_drawn { i < length self.old.plain.cells.ivars }
+        requires differ { (name_in self.old.names r == name_in self.old.names i) ≡ false }
+        requires result_empty { number_at_ivar (name_in self.old.names r) self.old.plain ≡ None }
+        requires right_empty { number_at_ivar (name_in self.old.names i) self.old.plain ≡ None }
+        ensures { OnOk result (self.new.plain ≡ connect_at None None (name_in self.old.names r) (name_in self.old.names i) self.old.plain) }
+    {
+        let result = cells::name(&mut self.cells, r);
+        let right = cells::name(&mut self.cells, i);
+        self.trace.push(Entry::Join { result, right })?;
+        let _connected = cells::connect(&mut self.cells, r, i);
+        Ok(())
+    }
+
+    /// Whether there is a job to pick.
+    pub fn can_pick(&self) -> bool
+        ensures { result ≡ has_pick self.now.plain.queues }
+    {
+        self.queues.can_pick()
+    }
+
+    /// Takes the next job out of its queue: `None` exactly where there is none.
+    pub fn pick(&mut self) -> Option<Job<Task>>
+        ensures job { option_map (job_mapped (name_in self.old.names)) result ≡ pick_of self.old.plain.queues }
+        ensures parts { self.new ≡ doing without_pick self.old }
+    {
+        self.queues.pick()
+    }
+
+    /// Whether a job waits. No yield is pending and no alarm is due, as neither is built.
+    pub fn has_more(&self) -> bool
+        ensures { result ≡ has_more self.now.plain }
+    {
+        !self.queues.is_empty()
+    }
+
+    /// Whether a work is outstanding. None is, as works are not built.
+    pub fn has_work(&self) -> bool
+        ensures { result ≡ not (is_empty_list self.now.plain.works) }
+    {
+        let _trace = &self.trace;
+        false
+    }
+
+    /// Whether a work is outstanding, and none that is can be done. Works are not built.
+    pub fn is_stuck(&self, threads: u32) -> bool
+        ensures { result ≡ (not (is_empty_list self.now.plain.works) && is_stuck threads self.now.plain) }
+    {
+        let _trace = &self.trace;
+        false
+    }
+
+    /// A cycle begins. No yield is pending and no alarm is due, as neither is built.
+    pub fn begin_cycle(&mut self) -> Result<(), NoMemory>
+        ensures { OnOk result (self.new ≡ doing cycle_begun self.old) }
+    {
+        self.queues.reset();
+        self.trace.push(Entry::Cycle)?;
+        Ok(())
+    }
+
+    /// The trace.
+    pub fn into_trace(self) -> Trace
+        ensures { result ≡ self.plain.trace }
+    {
+        let Parts { trace, .. } = self;
+        trace
+    }
+
+    /// A number whose name was drawn was drawn.
+    pub fn check_drawn(&self, i: IvarNo)
+        ensures { name_in self.now.names i < length self.now.plain.cells.ivars → i < length self.now.plain.cells.ivars }
+    {
+        let _cells = &self.cells;
+    }
+
+    /// The number that an atom is.
+    pub fn number_at(&self, vals: &Vals, atom: NumAtom) -> Num
+        requires { IsNumAt (named self.now vals.now) atom }
+        ensures { result ≡ number_in (named self.now vals.now) atom }
+    {
+        match atom {
+            NumAtom::Literal(num) => num,
+            NumAtom::Local(k) => num_of(local_at(vals, k)),
+        }
+    }
+
+    /// The ivar that a local names.
+    pub fn deferred_at(&self, vals: &Vals, k: usize) -> IvarNo
+        requires { IsDeferredAt self.now.plain (named self.now vals.now) k }
+        ensures name { name_in self.now.names result ≡ name_at (named self.now vals.now) k }
+        ensures drawn { result < length self.now.plain.cells.ivars }
+    {
+        let i = ivar_of(local_at(vals, k));
+        self.check_drawn(i);
+        i
+    }
+
+    /// The value of an atom.
+    pub fn value_at(&self, vals: &Vals, atom: NumAtom) -> Value
+        requires { IsBound (length (named self.now vals.now)) atom }
+        ensures { value_mapped (name_in self.now.names) result ≡ value_of (named self.now vals.now) atom }
+    {
+        match atom {
+            NumAtom::Literal(num) => Value::Num(num),
+            NumAtom::Local(k) => local_at(vals, k),
+        }
+    }
+
+    /// The values of arguments, in a list with room for one more.
+    pub fn args_at(&self, alloc: Global, vals: &Vals, args: &NumArgs) -> Result<Vals, NoMemory>
+        requires { AreBound (named self.now vals.now) args.now }
+        ensures { IfOk result (λ values. values_mapped (name_in self.now.names) values ≡ args_of (named self.now vals.now) args.now) }
+    {
+        let mut values = Vec::with_capacity(alloc, args.len() + 1)?;
+        for atom in args.as_slice() {
+            values.push(self.value_at(vals, *atom))?;
+        }
+        Ok(Items::from_vec(values))
+    }
+}
+
+/// A job for the task, with its entry.
+fn push_job(
+    queues: &mut Rings<Task>,
+    trace: &mut Trace,
+    ctx: Ctx,
+    task: Task,
+) -> Result<(), NoMemory>
+    ensures { OnOk result ((s : State) → with_jobs queues.new.queues trace.new s ≡ enqueue ctx task (with_jobs queues.old.queues trace.old s)) }
+{
+    let low = ctx.low;
+    queues.reserve(1)?;
+    let job = queues.push(ctx, task);
+    trace.push(Entry::Enq { job, low })?;
+    Ok(())
+}
+
+/// A job for the frame with the number that woke it.
+fn push_woken(
+    queues: &mut Rings<Task>,
+    trace: &mut Trace,
+    woken: Woken<Frame>,
+) -> Result<(), NoMemory>
+    ensures { OnOk result ((s : State) → with_jobs queues.new.queues trace.new s ≡ enqueued_for (with_jobs queues.old.queues trace.old s) woken) }
+{
+    let Woken { ctx, num, frame } = woken;
+    push_job(
+        queues,
+        trace,
+        ctx,
+        Task {
+            frame,
+            value: Some(num),
+        },
+    )?;
+    Ok(())
+}
+
+/// The woken handlers are enqueued, the oldest first. None is woken any more, after want of memory either.
+fn wake_all(
+    cells: &mut Cells<Frame>,
+    queues: &mut Rings<Task>,
+    trace: &mut Trace,
+) -> Result<(), NoMemory>
+    ensures cells { cells.new.named ≡ record cells.old.named { woken = [] } }
+    ensures jobs { OnOk result ((s : State) → with_jobs queues.new.queues trace.new s ≡ fold enqueued_for (with_jobs queues.old.queues trace.old s) cells.old.named.woken) }
+{
+    while let Some(woken) = cells.next_woken() {
+        match push_woken(queues, trace, woken) {
+            Ok(()) => {}
+            Err(e) => {
+                drop_woken(cells);
+                return Err(e);
+            }
+        }
+    }
+    Ok(())
+}
+
+/// The woken handlers are dropped.
+fn drop_woken(cells: &mut Cells<Frame>)
+    ensures { cells.new.named ≡ record cells.old.named { woken = [] } }
+{
+    while let Some(_woken) = cells.next_woken() {}
+}

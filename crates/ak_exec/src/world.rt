@@ -1,0 +1,195 @@
+//! The scheduler's state with its program, and the calls that a cycle is made of.
+
+ghost use Rattle.std.specs.Prelude.{◌≡◌, ◌≤◌, ◌<◌, not, IsSome, None, OnOk, IfOk, ◌&&◌, nat_le};
+ghost use Rattle.std.specs.Option.{option_map};
+ghost use Rattle.ak_base.specs.Lists.{is_empty_list};
+ghost use Rattle.ak_rings.specs.Queues.{pick_of, has_pick};
+ghost use Rattle.ak_machine.specs.Cycle.{cycle_begun, has_more, is_stuck};
+ghost use Rattle.ak_machine.specs.Deferred.{noting};
+ghost use Rattle.ak_exec.specs.Built.{AreBuilt};
+ghost use Rattle.ak_exec.specs.Worlds.{IsWhole, with_pick, with_state, first_state, RunsJob};
+
+use crate::job::run_task;
+use crate::parts::Parts;
+use ak_base::list::{Items, NoMemory};
+use ak_base::number::{Ctx, JobNo, MonNo};
+use ak_frames::frame::{Frame, Ret, Task};
+use ak_machine::config::{Config, Flow};
+use ak_program::program::Program;
+use ak_rings::job::Job;
+use ak_trace::entry::{Ending, Entry, Trace};
+use std::alloc::Global;
+use std::marker::Model;
+
+/// The whole state of a scheduler but its port: the program, the settings, the parts, the job that was picked and has
+/// not run yet, and how many jobs were picked. Contracts see the plain state that the parts stand for. Own.
+#[derive(Debug, Drop)]
+pub struct World {
+    alloc: Global,
+    program: Program,
+    config: Config,
+    parts: Parts,
+    picked: Option<Job<Task>>,
+    ran: u32,
+}
+
+impl Model for World {
+    ghost use Rattle.std.specs.Option.{option_map};
+    ghost use Rattle.ak_cells.specs.Names.{name_in};
+    ghost use Rattle.ak_machine.specs.Mapped.{job_mapped};
+    ghost use Rattle.ak_exec.specs.Worlds.{Worldly};
+
+    ghost Value = { Worldly };
+
+    ghost view = { λ w. record {
+      program = w.program;
+      config = w.config;
+      plain = w.parts.plain;
+      picked = option_map (job_mapped (name_in w.parts.names)) w.picked;
+      ran = w.ran;
+    } };
+}
+
+impl World {
+    /// The world of a program whose statements are built. The call of `main` is enqueued as job 0 in the root
+    /// monitor, at normal priority. At most `config.limit` jobs of a priority run in a cycle, which is at least 1.
+    ///
+    /// # Errors
+    ///
+    /// `NoMemory`.
+    pub fn make(alloc: Global, program: Program, config: Config) -> Result<World, NoMemory>
+        requires built { AreBuilt program.procs }
+        requires limit { 1 ≤ config.limit }
+        ensures world { IfOk result (λ world. world ≡ record { program = program; config = config; plain = first_state program config; picked = None; ran = 0 }) }
+        ensures whole { IfOk result IsWhole }
+    {
+        let mut parts = Parts::make(alloc, config.limit);
+        let ctx = Ctx {
+            mon: MonNo::new(0),
+            low: false,
+        };
+        let frame = Frame::Call {
+            proc: program.main(),
+            vals: Items::make(alloc),
+            ret: Ret::Drop,
+        };
+        parts.enqueue(ctx, Task { frame, value: None })?;
+        Ok(World {
+            alloc,
+            program,
+            config,
+            parts,
+            picked: None,
+            ran: 0,
+        })
+    }
+}
+
+/// Whether there is a job to pick: one waits, and fewer of its priority than the limit ran in this cycle.
+pub fn can_pick(world: &World) -> bool
+    ensures { result ≡ has_pick world.now.plain.queues }
+{
+    world.parts.can_pick()
+}
+
+/// Whether as many jobs were picked as a run may have.
+pub fn spent(world: &World) -> bool
+    ensures { result ≡ nat_le world.now.config.jobs world.now.ran }
+{
+    world.config.jobs <= world.ran
+}
+
+/// Takes the next job out of its queue and keeps it until it runs, where none is kept and the jobs are not spent. The
+/// answer is its number: `None` exactly where there is no job to pick, and nothing changes then.
+pub fn pick(world: &mut World) -> Option<JobNo>
+    requires free { world.old.picked ≡ None }
+    requires unspent { world.old.ran < world.old.config.jobs }
+    ensures number { result ≡ option_map (λ job. job.no) (pick_of world.old.plain.queues) }
+    ensures world { world.new ≡ with_pick world.old }
+    ensures whole { IsWhole world.old → IsWhole world.new }
+{
+    prove!(world.ran < world.config.jobs);
+    match world.parts.pick() {
+        Some(job) => {
+            let no = job.no;
+            world.ran += 1;
+            world.picked = Some(job);
+            Some(no)
+        }
+        None => None,
+    }
+}
+
+/// Runs the job that was picked, and keeps none.
+///
+/// # Errors
+///
+/// `NoMemory`. The world is given up then.
+pub fn run_frame(world: &mut World) -> Result<Flow, NoMemory>
+    requires picked { IsSome world.old.picked }
+    requires whole { IsWhole world.old }
+    ensures runs { IfOk result (λ flow. RunsJob world.old flow world.new.plain) }
+    ensures world { OnOk result (world.new ≡ record world.old { plain = world.new.plain; picked = None }) }
+    ensures whole { OnOk result (IsWhole world.new) }
+{
+    let Some(Job { no, ctx, frame }) = world.picked.take() else {
+        unreachable!()
+    };
+    world.parts.note(Entry::Job { job: no })?;
+    run_task(world.alloc, &world.program, &mut world.parts, ctx, frame)
+}
+
+/// Begins a cycle.
+///
+/// # Errors
+///
+/// `NoMemory`. The world is given up then.
+pub fn begin_cycle(world: &mut World) -> Result<(), NoMemory>
+    requires { IsWhole world.old }
+    ensures world { OnOk result (world.new ≡ with_state (cycle_begun world.old.plain) world.old) }
+    ensures whole { OnOk result (IsWhole world.new) }
+{
+    world.parts.begin_cycle()?;
+    Ok(())
+}
+
+/// Whether a job waits in a queue, a yield is pending or an alarm is due.
+pub fn more(world: &World) -> bool
+    ensures { result ≡ has_more world.now.plain }
+{
+    world.parts.has_more()
+}
+
+/// Whether a work is outstanding. None is, as works are not built.
+pub fn outstanding(world: &World) -> bool
+    ensures { result ≡ not (is_empty_list world.now.plain.works) }
+{
+    world.parts.has_work()
+}
+
+/// Whether a work is outstanding, every such work is general, and at least as many helpers as there are threads are
+/// granted and not ended. Works are not built.
+pub fn stuck(world: &World) -> bool
+    ensures { result ≡ (not (is_empty_list world.now.plain.works) && is_stuck world.now.config.threads world.now.plain) }
+{
+    world.parts.is_stuck(world.config.threads)
+}
+
+/// Writes why the run ends.
+///
+/// # Errors
+///
+/// `NoMemory`. The world is given up then.
+pub fn finish(world: &mut World, why: Ending) -> Result<(), NoMemory>
+    ensures { OnOk result (world.new ≡ with_state (noting (Entry.End why) world.old.plain) world.old) }
+{
+    world.parts.note(Entry::End { why })
+}
+
+/// The trace.
+pub fn trace(world: World) -> Trace
+    ensures { result ≡ world.plain.trace }
+{
+    let World { parts, .. } = world;
+    parts.into_trace()
+}
