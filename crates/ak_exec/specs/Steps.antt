@@ -5,7 +5,10 @@ use Rattle.ak_cells.specs.Names.{name_in}
 use Rattle.ak_frames.specs.declared.value.Value.{Value}
 use Rattle.ak_frames.specs.declared.frame.Ret.{Ret}
 use Rattle.ak_program.specs.declared.program.NumStatement.{NumStatement}
+use Rattle.ak_trace.specs.declared.entry.Entry.{Entry}
 use Rattle.ak_machine.specs.declared.config.Flow.{Flow}
+use Rattle.ak_machine.specs.declared.config.Flow.TheVariants.{On, Stopped, Unhandled}
+use Rattle.ak_machine.specs.Status.{Well, ByError, status_of}
 use Rattle.ak_machine.specs.State.{State}
 use Rattle.ak_machine.specs.Number.{Computed, Gives, Overflows, DividesByZero}
 use Rattle.ak_machine.specs.Mapped.{value_mapped}
@@ -50,3 +53,9 @@ ended_by ctx ret f (Returns v) s = going_on (returned ret (value_mapped f v) s)
 abbrev pub progress_of : Option Flow → Ctx → Ret → List NumStatement → State → List Value → Progress
 progress_of None ctx ret lines s vals = run_lines ctx ret lines s vals
 progress_of (Some flow) ctx ret lines s vals = Over (after_is flow s)
+
+-- what the last entries of a trace say, where the run doesn't go on
+abbrev pub Ends : Flow → List Entry → Type 0
+Ends On trace = Unit {0}
+Ends Stopped trace = status_of trace ≡ Well
+Ends (Unhandled num) trace = status_of trace ≡ ByError num

@@ -1,6 +1,6 @@
 //! How a job runs: its statements, its return, and each kind of frame.
 
-ghost use Rattle.std.specs.Prelude.{◌≡◌, ◌≢◌, ◌+◌, ◌<◌, pos, ◌∷◌, length, drop, IfOk, OnOk, IfNone};
+ghost use Rattle.std.specs.Prelude.{◌≡◌, ◌≢◌, ◌+◌, ◌<◌, pos, ◌∷◌, length, drop, IfOk, OnOk, IfNone, IfSome};
 ghost use Rattle.ak_cells.specs.Names.{name_in};
 ghost use Rattle.ak_machine.specs.Effect.{holds};
 ghost use Rattle.ak_machine.specs.Errors.{send as send_of};
@@ -10,7 +10,7 @@ ghost use Rattle.ak_machine.specs.Statement.{line_effect};
 ghost use Rattle.ak_exec.specs.Built.{AreBuilt};
 ghost use Rattle.ak_exec.specs.Fits.{Fits, RetFits, CallFits, FrameFits, IsReturned, IsUnderWay};
 ghost use Rattle.ak_exec.specs.Ready.{named, IsReady, IsTold};
-ghost use Rattle.ak_exec.specs.Steps.{Takes, ended_by, after_is, progress_of};
+ghost use Rattle.ak_exec.specs.Steps.{Takes, ended_by, after_is, progress_of, Ends};
 
 use crate::parts::Parts;
 use crate::statement::{run_statement, Step};
@@ -118,6 +118,7 @@ fn ended(
     requires returned { (value : Value) → step ≡ Step.Returns value → IsReturned (length parts.old.plain.cells.ivars) (value_mapped (name_in parts.old.names) value) }
     requires fits { Fits program.now.procs parts.old.plain }
     ensures fits { OnOk result (Fits program.now.procs parts.new.plain) }
+    ensures told { IfOk result (λ flow. Ends flow parts.new.plain.trace) }
     ensures ends { IfOk result (λ flow. ended_by ctx (ret_mapped (name_in parts.old.names) ret) (name_in parts.old.names) step parts.old.plain ≡ after_is flow parts.new.plain) }
 {
     match step {
@@ -148,6 +149,7 @@ fn advance(
     requires some { k < length lines.now }
     ensures way { IfOk result (λ next. IfNone next (IsUnderWay program.now.procs parts.new.plain (named parts.new vals.new) ctx.now (ret_mapped (name_in parts.new.names) ret.now) (drop (k + 1) lines.now))) }
     ensures fits { OnOk result (Fits program.now.procs parts.new.plain) }
+    ensures told { IfOk result (λ next. IfSome next (λ flow. Ends flow parts.new.plain.trace)) }
     ensures runs { IfOk result (λ next. lines_run ctx.now (ret_mapped (name_in parts.old.names) ret.now) (drop k lines.now) parts.old.plain (named parts.old vals.old) ≡ progress_of next ctx.now (ret_mapped (name_in parts.new.names) ret.now) (drop (k + 1) lines.now) parts.new.plain (named parts.new vals.new)) }
 {
     match run_line(alloc, parts, *ctx, &lines[k], vals)? {
@@ -168,6 +170,7 @@ fn run_lines(
 ) -> Result<Flow, NoMemory>
     requires { IsUnderWay program.now.procs parts.old.plain (named parts.old vals.old) ctx.now (ret_mapped (name_in parts.old.names) ret.now) lines.now }
     ensures fits { OnOk result (Fits program.now.procs parts.new.plain) }
+    ensures told { IfOk result (λ flow. Ends flow parts.new.plain.trace) }
     ensures runs { IfOk result (λ flow. lines_run ctx.now (ret_mapped (name_in parts.old.names) ret.now) lines.now parts.old.plain (named parts.old vals.old) ≡ Over (after_is flow parts.new.plain)) }
 {
     for k in 0..lines.len() {
@@ -221,6 +224,7 @@ fn run_call(
     requires ret { RetFits (length parts.old.plain.cells.ivars) (ret_mapped (name_in parts.old.names) ret) }
     requires fits { Fits program.now.procs parts.old.plain }
     ensures fits { OnOk result (Fits program.now.procs parts.new.plain) }
+    ensures told { IfOk result (λ flow. Ends flow parts.new.plain.trace) }
     ensures runs { IfOk result (λ flow. lines_run ctx (ret_mapped (name_in parts.old.names) ret) (lines_of program.now.procs proc) parts.old.plain (named parts.old vals) ≡ Over (after_is flow parts.new.plain)) }
 {
     let mut vals = vals;
@@ -249,6 +253,7 @@ pub fn run_task(
     requires frame { FrameFits program.now.procs (length parts.old.plain.cells.ivars) (frame_mapped (name_in parts.old.names) task.frame) }
     requires fits { Fits program.now.procs parts.old.plain }
     ensures fits { OnOk result (Fits program.now.procs parts.new.plain) }
+    ensures told { IfOk result (λ flow. Ends flow parts.new.plain.trace) }
     ensures runs { IfOk result (λ flow. frame_run program.now.procs ctx (frame_mapped (name_in parts.old.names) task.frame) (value_or_zero task.value) parts.old.plain ≡ Over (after_is flow parts.new.plain)) }
 {
     let Task { frame, value } = task;

@@ -8,6 +8,7 @@ ghost use Rattle.ak_machine.specs.Cycle.{cycle_begun, has_more, is_stuck};
 ghost use Rattle.ak_base.specs.Lists.{is_empty_list};
 ghost use Rattle.ak_machine.specs.declared.config.Flow.{Flow};
 ghost use Rattle.ak_machine.specs.Errors.{send};
+ghost use Rattle.ak_machine.specs.Status.{ByError, status_of};
 ghost use Rattle.ak_machine.specs.State.{State, initial_state};
 ghost use Rattle.ak_machine.specs.Deferred.{noting, enqueue, with_ivar, number_at as number_at_ivar, fill_empty, register, register_at, connect, connect_at};
 ghost use Rattle.ak_machine.specs.Mapped.{task_mapped, job_mapped, frame_mapped, value_mapped, values_mapped};
@@ -153,6 +154,7 @@ impl Parts {
     pub fn send_root(&mut self, num: Num) -> Result<(), NoMemory>
         ensures noted { OnOk result (self.new ≡ doing (root_error num) self.old) }
         ensures sent { OnOk result (send 0 num self.old.plain ≡ record { state = self.new.plain; flow = Flow.Unhandled num }) }
+        ensures ends { OnOk result (status_of self.new.plain.trace ≡ ByError num) }
     {
         let mon = MonNo::new(0);
         self.trace.push(Entry::Error { num, mon })?;
@@ -220,7 +222,8 @@ impl Parts {
 
     /// Whether a work is outstanding. None is, as works are not built.
     pub fn has_work(&self) -> bool
-        ensures { result ≡ not (is_empty_list self.now.plain.works) }
+        ensures works { result ≡ not (is_empty_list self.now.plain.works) }
+        ensures none { result ≡ false }
     {
         let _trace = &self.trace;
         false
@@ -234,9 +237,11 @@ impl Parts {
         false
     }
 
-    /// A cycle begins. No yield is pending and no alarm is due, as neither is built.
+    /// A cycle begins. No yield is pending and no alarm is due, as neither is built; so there is a job to pick then
+    /// exactly where something was left to do.
     pub fn begin_cycle(&mut self) -> Result<(), NoMemory>
-        ensures { OnOk result (self.new ≡ doing cycle_begun self.old) }
+        ensures begun { OnOk result (self.new ≡ doing cycle_begun self.old) }
+        ensures picks { OnOk result (has_pick self.new.plain.queues ≡ has_more self.old.plain) }
     {
         self.queues.reset();
         self.trace.push(Entry::Cycle)?;

@@ -1,12 +1,13 @@
 //! The scheduler's state with its program, and the calls that a cycle is made of.
 
-ghost use Rattle.std.specs.Prelude.{◌≡◌, ◌≤◌, ◌<◌, not, IsSome, None, OnOk, IfOk, ◌&&◌, nat_le};
+ghost use Rattle.std.specs.Prelude.{◌≡◌, ◌≤◌, ◌<◌, not, IsSome, None, OnOk, IfOk, ◌&&◌, nat_le, false};
 ghost use Rattle.std.specs.Option.{option_map};
 ghost use Rattle.ak_base.specs.Lists.{is_empty_list};
 ghost use Rattle.ak_rings.specs.Queues.{pick_of, has_pick};
 ghost use Rattle.ak_machine.specs.Cycle.{cycle_begun, has_more, is_stuck};
 ghost use Rattle.ak_machine.specs.Deferred.{noting};
 ghost use Rattle.ak_exec.specs.Built.{AreBuilt};
+ghost use Rattle.ak_exec.specs.Steps.{Ends};
 ghost use Rattle.ak_exec.specs.Worlds.{IsWhole, with_pick, with_state, first_state, RunsJob};
 
 use crate::job::run_task;
@@ -129,6 +130,7 @@ pub fn run_frame(world: &mut World) -> Result<Flow, NoMemory>
     requires picked { IsSome world.old.picked }
     requires whole { IsWhole world.old }
     ensures runs { IfOk result (λ flow. RunsJob world.old flow world.new.plain) }
+    ensures told { IfOk result (λ flow. Ends flow world.new.plain.trace) }
     ensures world { OnOk result (world.new ≡ record world.old { plain = world.new.plain; picked = None }) }
     ensures whole { OnOk result (IsWhole world.new) }
 {
@@ -139,7 +141,7 @@ pub fn run_frame(world: &mut World) -> Result<Flow, NoMemory>
     run_task(world.alloc, &world.program, &mut world.parts, ctx, frame)
 }
 
-/// Begins a cycle.
+/// Begins a cycle. There is a job to pick then exactly where something was left to do.
 ///
 /// # Errors
 ///
@@ -147,6 +149,7 @@ pub fn run_frame(world: &mut World) -> Result<Flow, NoMemory>
 pub fn begin_cycle(world: &mut World) -> Result<(), NoMemory>
     requires { IsWhole world.old }
     ensures world { OnOk result (world.new ≡ with_state (cycle_begun world.old.plain) world.old) }
+    ensures picks { OnOk result (has_pick world.new.plain.queues ≡ has_more world.old.plain) }
     ensures whole { OnOk result (IsWhole world.new) }
 {
     world.parts.begin_cycle()?;
@@ -162,7 +165,8 @@ pub fn more(world: &World) -> bool
 
 /// Whether a work is outstanding. None is, as works are not built.
 pub fn outstanding(world: &World) -> bool
-    ensures { result ≡ not (is_empty_list world.now.plain.works) }
+    ensures works { result ≡ not (is_empty_list world.now.plain.works) }
+    ensures none { result ≡ false }
 {
     world.parts.has_work()
 }

@@ -1,6 +1,6 @@
 //! The jobs that wait, and the pick of the next one.
 
-ghost use Rattle.std.specs.Prelude.{◌≡◌, ◌+◌, ◌-◌, ◌<◌, ◌≤◌, ◌^◌, OnOk};
+ghost use Rattle.std.specs.Prelude.{◌≡◌, ◌+◌, ◌-◌, ◌<◌, ◌≤◌, ◌^◌, not, OnOk};
 ghost use Rattle.ak_rings.specs.Queues.{no_jobs, with_job, pick_of, has_pick, picked_from, recounted, has_no_job};
 
 use crate::job::Job;
@@ -128,9 +128,10 @@ impl<F> Rings<F> {
         }
     }
 
-    /// Begins a cycle: none of its jobs ran.
+    /// Begins a cycle: none of its jobs ran. There is a job to pick then exactly where one waits.
     pub fn reset(&mut self)
         ensures queues { self.new.queues ≡ recounted self.old.queues }
+        ensures picks { has_pick self.new.queues ≡ not (has_no_job self.old.queues) }
         ensures spare { self.new.spare ≡ self.old.spare }
     {
         self.normal_ran = 0;

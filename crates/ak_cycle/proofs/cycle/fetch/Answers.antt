@@ -1,8 +1,0 @@
-use Rattle.std.proofs.Common.{◌∙◌}
-use Rattle.ak_labor.proofs.Arrivals.{Arrive-none}
-use Rattle.ak_cycle.proofs.cycle.fetch.Goals as goal
-
-pub returns-clause-asked : goal.returns-clause-asked
-returns-clause-asked g c =
-    let none = Arrive-none _ _ c.requires.none c.in_ok-drain.ensures.arrive
-    in (c.in_ok-drain.ensures.asked.0, c.in_ok-drain.ensures.asked.1 ∙ rw none)
