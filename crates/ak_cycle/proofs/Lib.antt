@@ -1,2 +1,2 @@
-pub mod Literals
-pub mod Printed
+mod Turns
+mod Under

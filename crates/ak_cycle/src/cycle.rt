@@ -1,26 +1,29 @@
 //! Whole runs.
 
-ghost use Rattle.std.specs.Prelude.{◌≡◌, ◌<◌, [], IfOk};
-ghost use Rattle.std.specs.List.{AllByRecursion};
+ghost use Rattle.std.specs.Prelude.{◌≡◌, ◌≤◌, ◌<◌, [], true, IfOk};
+ghost use Rattle.std.specs.List.{filter_map};
 ghost use Rattle.ak_labor.specs.declared.ask.Ask.TheVariants as ask;
 ghost use Rattle.ak_labor.specs.Calls.{IsAsked, IsOpen, IsFault, Pairs};
-ghost use Rattle.ak_labor.specs.Waits.{outstanding};
-ghost use Rattle.ak_machine.specs.Job.{lines_of};
+ghost use Rattle.ak_labor.specs.Waits.{handed_by};
 ghost use Rattle.ak_machine.specs.Run.{run_of};
-ghost use Rattle.ak_machine.specs.Status.{Well, status_of};
-ghost use Rattle.ak_cycle.specs.Printing.{IsPrint, IsBuiltProgram};
+ghost use Rattle.ak_machine.specs.Status.{status_of};
+ghost use Rattle.ak_program.specs.Programs.{NumProgram};
+ghost use Rattle.ak_exec.specs.Built.{AreBuilt};
 ghost use Rattle.ak_cycle.specs.Runs.{HasEndedWith, WantsLast};
+ghost use Rattle.ak_cycle.specs.Turns.{IsAt, IsFinished, turns_left};
 
-use crate::printing::print_all;
-use ak_base::number::JobNo;
+use crate::turn::advance;
+use ak_exec::world::{World, begin_cycle, trace};
 use ak_labor::port::{Port, PortError};
 use ak_labor::work::Arrivals;
 use ak_machine::config::Config;
-use ak_trace::entry::{Ending, Entry, Trace};
-use ak_program::program::{NumStatement, Program};
+use ak_program::program::Program;
+use ak_trace::entry::Trace;
 use std::alloc::Global;
 
-/// Runs a program on the scheduler, with a port as its pool. Own; after Async's scheduler in outline.
+/// Runs a program, whose statements are built, on the scheduler, with a port as its pool: one of so many threads as
+/// the settings say, which was asked nothing yet. At most `config.limit` jobs of a priority run in a cycle, which is
+/// at least 1. Own; after Async's scheduler in outline.
 ///
 /// On `Ok` the trace is the machine's for the port's replies, the machine has ended, and what the port was asked is
 /// what the machine asks, with its waits.
@@ -35,35 +38,48 @@ pub fn run<P: Port>(
     config: Config,
     port: &mut P,
 ) -> Result<Trace, PortError<P::Fault>>
-    requires built { IsBuiltProgram program }
-    requires limit { 0 < config.limit }
-    requires jobs { 0 < config.jobs }
+    requires built { AreBuilt program.procs }
+    requires limit { 1 ≤ config.limit }
     requires threads { config.threads ≡ P.threads port.old }
     requires asked { P.asked port.old ≡ [] }
     requires replied { P.replies port.old ≡ [] }
     requires waited { P.waits port.old ≡ [] }
     ensures ended { IfOk result (λ trace. HasEndedWith (run_of program.procs program.main config (P.replies port.new)) trace (P.asked port.new) (P.waits port.new)) }
-    ensures well { IfOk result (λ trace. status_of trace ≡ Well) }
+    ensures finished { IfOk result (λ trace. IsFinished (status_of trace)) }
     ensures threads { P.threads port.new ≡ P.threads port.old }
     ensures fault { IsFault result → WantsLast (run_of program.procs program.main config (P.replies port.new)) (P.asked port.new) (P.waits port.new) }
 {
-    let mut trace = Trace::make(alloc);
-    let job = JobNo::new(0);
-    trace.push(Entry::Enq { job, low: false })?;
-    trace.push(Entry::Cycle)?;
-    fetch(alloc, port)?;
-    trace.push(Entry::Job { job })?;
-    print_all(&mut trace, main_body(&program))?;
-    fetch(alloc, port)?;
-    trace.push(Entry::End { why: Ending::Idle })?;
+    let mut world = World::make(alloc, program, config)?;
+    begin_cycle(&mut world)?;
+    let mut on = true;
+    while on {
+        on = turn(alloc, &mut world, port)?;
+    }
     port.close()?;
-    Ok(trace)
+    Ok(trace(world))
 }
 
-// Drains a port on which no work is out.
+// One drain, and what follows it. The answer is whether the run goes on.
+fn turn<P: Port>(
+    alloc: Global,
+    world: &mut World,
+    port: &mut P,
+) -> Result<bool, PortError<P::Fault>>
+    requires { IsAt true world.old.program world.old.config world.old (P.asked port.old) (P.replies port.old) (P.waits port.old) }
+    ensures at { IfOk result (λ on. IsAt on world.old.program world.old.config world.new (P.asked port.new) (P.replies port.new) (P.waits port.new)) }
+    ensures left { IfOk result (λ on. on ≡ true → turns_left world.new < turns_left world.old) }
+    ensures threads { P.threads port.new ≡ P.threads port.old }
+    ensures fault { IsFault result → WantsLast (run_of world.old.program.procs world.old.program.main world.old.config (P.replies port.new)) (P.asked port.new) (P.waits port.new) }
+{
+    fetch(alloc, port)?;
+    let on = advance(world)?;
+    Ok(on)
+}
+
+// Drains a port to which no work was handed in.
 fn fetch<P: Port>(alloc: Global, port: &mut P) -> Result<(), PortError<P::Fault>>
     requires open { IsOpen (P.asked port.old) (P.replies port.old) }
-    requires none { outstanding (P.asked port.old) (P.replies port.old) ≡ [] }
+    requires none { filter_map handed_by (P.asked port.old) ≡ [] }
     ensures asked { IsAsked ask.Drain (λ _. Pairs []) (P.asked port.old) (P.asked port.new) (P.replies port.old) (P.replies port.new) result }
     ensures waits { P.waits port.new ≡ P.waits port.old }
     ensures threads { P.threads port.new ≡ P.threads port.old }
@@ -71,17 +87,4 @@ fn fetch<P: Port>(alloc: Global, port: &mut P) -> Result<(), PortError<P::Fault>
     let mut arrivals = Arrivals::make(alloc);
     port.drain(&mut arrivals)?;
     Ok(())
-}
-
-// The statements of the main procedure, which has no locals.
-fn main_body(program: &Program) -> &[NumStatement]
-    requires { IsBuiltProgram program.now }
-    ensures body { result.now ≡ lines_of program.now.procs program.now.main }
-    ensures prints { AllByRecursion IsPrint (lines_of program.now.procs program.now.main) }
-{
-    let main = program.main();
-    match program.proc(main) {
-        Some(proc) => proc.body.as_slice(),
-        None => unreachable!(),
-    }
 }

@@ -2,4 +2,4 @@
 #![tactic(auto)]
 
 pub mod cycle;
-pub mod printing;
+mod turn;

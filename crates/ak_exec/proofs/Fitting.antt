@@ -1,8 +1,8 @@
 -- Changes of a state whose frames fit a program leave frames that fit.
-use Rattle.std.proofs.Common.{◌≡◌, ℕ, ◌+◌, ◌<◌, ◌≤◌, List, [], ◌∷◌, ◌++◌, length, map, refl, subst, sym, ap, ◌∙◌, arith, Bool, true, false, cond}
-use Rattle.std.specs.Prelude.{ℤ, pos, Option, Some, None, MatchOption, fold, filter, slice_set, ◌==◌}
+use Rattle.std.proofs.Common.{◌≡◌, ℕ, ◌+◌, ◌<◌, ◌≤◌, List, [], ◌∷◌, ◌++◌, length, map, refl, subst, sym, ◌∙◌, arith, Bool, true, false, cond}
+use Rattle.std.specs.Prelude.{ℤ, pos, Option, Some, None, MatchOption, fold, filter, ◌==◌}
 use Rattle.std.specs.List.{AllByRecursion, slice_get}
-use Rattle.std.proofs.lemmas.List.{length-append, length-map}
+use Rattle.std.proofs.lemmas.List.{length-append}
 use Rattle.std.proofs.Math.ListN.{length-set}
 use Rattle.ak_base.specs.declared.number.Ctx.{Ctx}
 use Rattle.ak_script.specs.declared.script.Kind.{Kind}
@@ -30,7 +30,7 @@ use Rattle.ak_machine.specs.State.{State}
 use Rattle.ak_machine.specs.Deferred.{noting, enqueue, woken_task, with_ivar, woken_by, number_at, fill_empty, fill_at, fill, filled_with, register_at, register, connect_at, connect}
 use Rattle.ak_machine.specs.Mapped.{value_mapped, values_mapped, ret_mapped, frame_mapped, job_mapped, registration_mapped, state_renamed}
 use Rattle.ak_machine.specs.Job.{returned, number_returned, deferred_returned}
-use Rattle.ak_exec.specs.Fits.{ValueFits, ValsFit, kinds_of, RetFits, CallFits, FrameFits, HeldFits, JobFits, HandlerFits, StateFits, Fits, IsReturned}
+use Rattle.ak_exec.specs.Fits.{ValueFits, ValsFit, kinds_of, RetFits, FrameFits, HeldFits, JobFits, HandlerFits, StateFits, Fits}
 use Rattle.ak_exec.proofs.Values.{vals_grow}
 
 -- ---- lists

@@ -1,14 +1,12 @@
 -- Reads of values with surviving names.
-use Rattle.std.proofs.Common.{ℕ, zero, suc, ◌<◌, ◌≡◌, List, [], ◌∷◌, length, map, refl, subst, sym, arith}
+use Rattle.std.proofs.Common.{ℕ, zero, suc, ◌<◌, ◌≡◌, List, [], ◌∷◌, length, refl, subst, arith}
 use Rattle.std.specs.Prelude.{pos}
 use Rattle.std.proofs.lemmas.List.{length-map}
 use Rattle.std.proofs.Math.ListN.{get_or-map}
-use Rattle.ak_cells.specs.Names.{name_in}
 use Rattle.ak_frames.specs.declared.value.Value.{Value}
 use Rattle.ak_frames.specs.declared.value.Value.TheVariants.{Num, Ivar, Def, Mon, Pipe, Thr, Event, Helper}
 use Rattle.ak_machine.specs.Effect.{local, number_of, name_of}
 use Rattle.ak_machine.specs.Mapped.{value_mapped, values_mapped}
-use Rattle.ak_machine.proofs.Names.{name_in-drawn}
 use Rattle.ak_exec.specs.Ready.{IsNum, IsName, IsDeferred}
 
 pub local_mapped : (f : ℕ → ℕ) (vals : List Value) (k : ℕ) → local (values_mapped f vals) k ≡ value_mapped f (local vals k)

@@ -1,7 +1,7 @@
 -- Picks of jobs whose names are mapped, and of jobs that fit.
-use Rattle.std.proofs.Common.{◌≡◌, ℕ, ◌<◌, ◌≤◌, List, [], ◌∷◌, length, map, refl, ap, sym, ◌∙◌, subst, Bool, true, false, cond, nat_lt}
-use Rattle.std.specs.Prelude.{Option, Some, None, IfSome, pos, MatchOption}
-use Rattle.std.specs.List.{AllByRecursion, slice_get}
+use Rattle.std.proofs.Common.{◌≡◌, ℕ, ◌≤◌, List, [], ◌∷◌, length, map, refl, ap, ◌∙◌, Bool, true, false, cond, nat_lt}
+use Rattle.std.specs.Prelude.{Option, Some, None, IfSome}
+use Rattle.std.specs.List.{AllByRecursion}
 use Rattle.std.specs.Option.{option_map}
 use Rattle.ak_base.specs.Lists.{rest_of, is_empty_list}
 use Rattle.ak_rings.specs.declared.job.Job.{Job}

@@ -1,12 +1,11 @@
 -- Lines of a sound program: each statement finds what it needs, and what it leaves fits.
-use Rattle.std.proofs.Common.{◌≡◌, ℕ, ◌+◌, ◌<◌, ◌≤◌, List, [], ◌∷◌, ◌++◌, length, map, refl, subst, sym, ap, ◌∙◌, arith, Bool, true, false, cond}
-use Rattle.std.specs.Prelude.{ℤ, pos, Option, Some, None}
+use Rattle.std.proofs.Common.{◌≡◌, ℕ, ◌<◌, List, [], ◌∷◌, ◌++◌, length, subst, sym, arith, Bool, true, false, cond}
+use Rattle.std.specs.Prelude.{Option, Some, None}
 use Rattle.std.specs.List.{AllByRecursion}
 use Rattle.std.proofs.lemmas.List.{append-nil}
 use Rattle.ak_base.specs.declared.number.Ctx.{Ctx}
 use Rattle.ak_script.specs.declared.script.Kind.{Kind}
 use Rattle.ak_script.specs.declared.script.Kind.TheVariants.{Num, Ivar, Def}
-use Rattle.ak_cells.specs.Names.{name_in as named_at}
 use Rattle.ak_frames.specs.declared.value.Value.{Value}
 use Rattle.ak_frames.specs.declared.value.Value.TheVariants as value
 use Rattle.ak_frames.specs.declared.frame.Ret.{Ret}
@@ -20,23 +19,17 @@ use Rattle.ak_program.specs.declared.program.NumProc.{NumProc}
 use Rattle.ak_program.specs.declared.statement.NumAtom.{NumAtom}
 use Rattle.ak_program.specs.declared.statement.NumStmt.{NumStmt}
 use Rattle.ak_program.specs.declared.statement.NumStmt.TheVariants as stmt
-use Rattle.ak_program.specs.Programs.{number, num_binds, prefix_uses, IsKnown, StatementIsSound, LinesAreSound}
+use Rattle.ak_program.specs.Programs.{number, prefix_uses, IsKnown, StatementIsSound}
 use Rattle.ak_machine.specs.State.{State}
 use Rattle.ak_machine.specs.Number.{Computed, Gives, Overflows, DividesByZero, computed}
 use Rattle.ak_machine.specs.Deferred.{noting, plain_task, with_ivar, is_empty, fill, register}
-use Rattle.ak_machine.specs.Mapped.{ret_mapped, value_mapped}
-use Rattle.ak_machine.specs.Effect.{Effect, Goes, Raises, Returns, full_ivar, number_in, name_in, value_of, args_of, bound, holds}
+use Rattle.ak_machine.specs.Effect.{Effect, Goes, Raises, Returns, full_ivar, number_in, name_in, args_of, holds}
 use Rattle.ak_machine.specs.Statement.{effect_of, set_effect, line_effect}
-use Rattle.ak_machine.specs.Errors.{After}
-use Rattle.ak_exec.specs.Seen.{Seen}
 use Rattle.ak_exec.specs.Ready.{IsReady, IsTold}
-use Rattle.ak_exec.specs.Steps.{Takes}
-use Rattle.ak_exec.specs.declared.statement.Step.{Step}
-use Rattle.ak_exec.specs.declared.statement.Step.TheVariants as step_is
-use Rattle.ak_exec.specs.Built.{IsBuiltStmt, MayHavePrefix, IsBuilt}
+use Rattle.ak_exec.specs.Built.{IsBuiltStmt, MayHavePrefix}
 use Rattle.ak_exec.specs.Fits.{ValueFits, ValsFit, kinds_of, kinds_after, AreTyped, RetFits, HeldFits, Fits, IsReturned, EffectFits, IsUnderWay}
 use Rattle.ak_exec.proofs.Values.{ivar_at, def_at, num_at, returned_at, call_bound, call_fits, value_call_fits, all_front, all_back, vals_grow, vals_push}
-use Rattle.ak_exec.proofs.Fitting.{Grows, ret_grows, noted_grows, enqueue_grows, fill_grows, register_grows, register_length, ivar_grows, drawn_one, grown_fits}
+use Rattle.ak_exec.proofs.Fitting.{Grows, ret_grows, noted_grows, enqueue_grows, fill_grows, register_grows, register_length, ivar_grows, drawn_one}
 
 -- a statement of a sound program finds what it needs
 pub ready : (program : List NumProc) (kinds : List Kind) (prefix : Option NumPrefix) (line : ℕ) (st : NumStmt) (s : State) (vals : List Value) → ValsFit (length s.cells.ivars) kinds vals

@@ -1,9 +1,9 @@
 -- Values of the right kind: what a statement of a sound program reads.
-use Rattle.std.proofs.Common.{◌≡◌, ◌⊎◌, inl, inr, ℕ, zero, suc, ◌+◌, ◌<◌, ◌≤◌, List, [], ◌∷◌, ◌++◌, length, map, take, drop, get_or, refl, subst, sym, ap, arith}
-use Rattle.std.specs.Prelude.{ℤ, pos, Option, Some, None, All, MatchOption}
+use Rattle.std.proofs.Common.{◌≡◌, ◌⊎◌, inl, inr, ℕ, zero, suc, ◌<◌, ◌≤◌, List, [], ◌∷◌, ◌++◌, length, drop, get_or, subst, sym, arith}
+use Rattle.std.specs.Prelude.{pos, Option, Some, None, All, MatchOption}
 use Rattle.std.specs.List.{AllByRecursion, AllZip, Any as AnyOf, slice_get}
 use Rattle.ak_script.specs.declared.script.Kind.{Kind}
-use Rattle.ak_script.specs.declared.script.Kind.TheVariants.{Num, Ivar, Def, Mon, Pipe, Thr, Event, Helper}
+use Rattle.ak_script.specs.declared.script.Kind.TheVariants.{Num, Ivar, Def}
 use Rattle.ak_script.specs.Kinds.{Serves}
 use Rattle.ak_frames.specs.declared.value.Value.{Value}
 use Rattle.ak_frames.specs.declared.value.Value.TheVariants as value

@@ -1,6 +1,6 @@
 -- A job under way, by the last step that the code took.
-use Rattle.std.proofs.Common.{◌≡◌, ◌≢◌, ℕ, zero, suc, ◌<◌, List, [], ◌∷◌, length, map, refl, subst, sym, ap, ◌∙◌}
-use Rattle.std.specs.Prelude.{ℤ, pos, Option, Some, None, MatchOption, slice_index_or}
+use Rattle.std.proofs.Common.{◌≡◌, ◌≢◌, ℕ, zero, suc, ◌<◌, List, [], ◌∷◌, length, refl, subst, sym, ap, ◌∙◌}
+use Rattle.std.specs.Prelude.{ℤ, pos, Option, Some, None, MatchOption}
 use Rattle.std.specs.List.{AllByRecursion, slice_get}
 use Rattle.std.proofs.lemmas.Option.{get_or_from_slice_get, slice_get_within}
 use Rattle.ak_base.specs.declared.number.Ctx.{Ctx}
@@ -12,20 +12,19 @@ use Rattle.ak_script.specs.declared.script.Kind.{Kind}
 use Rattle.ak_script.specs.declared.script.Kind.TheVariants.{Num, Ivar, Def, Mon, Pipe, Thr, Event, Helper}
 use Rattle.ak_program.specs.declared.program.NumStatement.{NumStatement}
 use Rattle.ak_program.specs.declared.program.NumProc.{NumProc}
-use Rattle.ak_program.specs.Programs.{ProcIsSound, LinesAreSound}
+use Rattle.ak_program.specs.Programs.{ProcIsSound}
 use Rattle.ak_machine.specs.State.{State}
-use Rattle.ak_machine.specs.Mapped.{ret_mapped, value_mapped}
+use Rattle.ak_machine.specs.Mapped.{value_mapped}
 use Rattle.ak_machine.specs.Effect.{Effect, Goes, Raises, Returns}
 use Rattle.ak_machine.specs.Statement.{line_effect}
-use Rattle.ak_machine.specs.Errors.{After, going_on, send}
+use Rattle.ak_machine.specs.Errors.{going_on, send}
 use Rattle.ak_machine.specs.Job.{Over, returned, run_lines, lines_of}
 use Rattle.ak_exec.specs.Seen.{Seen}
-use Rattle.ak_exec.specs.Ready.{named}
 use Rattle.ak_exec.specs.Steps.{Takes, ended_by}
 use Rattle.ak_exec.specs.declared.statement.Step.{Step}
 use Rattle.ak_exec.specs.declared.statement.Step.TheVariants as step_is
-use Rattle.ak_exec.specs.Built.{IsBuilt, ProcIsBuilt, AreBuilt}
-use Rattle.ak_exec.specs.Fits.{ValueFits, ValsFit, kinds_of, AreTyped, RetFits, CallFits, Fits, IsReturned, IsUnderWay}
+use Rattle.ak_exec.specs.Built.{ProcIsBuilt, AreBuilt}
+use Rattle.ak_exec.specs.Fits.{ValueFits, ValsFit, kinds_of, AreTyped, CallFits, IsReturned, IsUnderWay}
 use Rattle.ak_exec.proofs.Typed.{head_returned}
 
 -- a line that goes on

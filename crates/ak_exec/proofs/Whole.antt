@@ -1,6 +1,6 @@
 -- A world that is whole stays so when a cycle begins.
-use Rattle.std.proofs.Common.{◌≡◌, ℕ, List, length, map, ap, sym, subst, ◌∙◌}
-use Rattle.std.specs.Prelude.{Option, IfSome}
+use Rattle.std.proofs.Common.{◌≡◌, ℕ, length, sym, subst}
+use Rattle.std.specs.Prelude.{Option}
 use Rattle.std.specs.Option.{option_map}
 use Rattle.ak_cells.specs.Names.{name_in}
 use Rattle.ak_frames.specs.declared.frame.Task.{Task}
@@ -11,8 +11,6 @@ use Rattle.ak_machine.specs.Cycle.{cycle_begun}
 use Rattle.ak_machine.specs.Mapped.{job_mapped}
 use Rattle.ak_exec.specs.Seen.{Seen, doing}
 use Rattle.ak_exec.specs.Worlds.{Worldly, IsWhole}
-use Rattle.ak_exec.specs.Built.{AreBuilt}
-use Rattle.ak_exec.specs.Fits.{JobFits, Fits}
 use Rattle.ak_exec.proofs.Fitting.{cycle_grows}
 use Rattle.ak_exec.proofs.Picks.{picked_grows}
 

@@ -1,5 +1,5 @@
 -- Which values, lines and frames fit a program.
-use Rattle.std.specs.Prelude.{ℕ, ℤ, pos, ◌<◌, ◌≤◌, ◌≡◌, List, [], ◌∷◌, ◌++◌, map, length, Option, Some, None, slice_get, MatchOption}
+use Rattle.std.specs.Prelude.{ℕ, pos, ◌<◌, ◌≤◌, ◌≡◌, List, [], ◌∷◌, ◌++◌, map, length, slice_get, MatchOption}
 use Rattle.std.specs.List.{AllByRecursion}
 use Rattle.ak_base.specs.declared.number.Ctx.{Ctx}
 use Rattle.ak_rings.specs.declared.job.Job.{Job}

@@ -1,5 +1,5 @@
 -- What contracts see of a world.
-use Rattle.std.specs.Prelude.{ℕ, ◌+◌, ◌≡◌, List, [], length, false, Option, Some, None, IfSome}
+use Rattle.std.specs.Prelude.{ℕ, ◌+◌, ◌≡◌, [], length, false, Option, Some, None, IfSome}
 use Rattle.ak_rings.specs.declared.job.Job.{Job}
 use Rattle.ak_frames.specs.declared.frame.Task.{Task}
 use Rattle.ak_machine.specs.declared.config.Config.{Config}

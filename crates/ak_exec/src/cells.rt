@@ -112,12 +112,7 @@ pub fn fill(cells: &mut Cells<Frame>, i: IvarNo, num: Num) -> Result<(), FullAlr
     fill_by::<Brand>(cells, i, num, Blank::new(1))
 }
 
-fn connect_by<L: Ledger>(
-    cells: &mut Cells<Frame>,
-    r: IvarNo,
-    s: IvarNo,
-    blank: Blank,
-) -> Connected
+fn connect_by<L: Ledger>(cells: &mut Cells<Frame>, r: IvarNo, s: IvarNo, blank: Blank) -> Connected
     requires ledger { blank.name ≡ L.name }
     requires parts { blank.parts ≡ L.parts }
     requires some { 0 < blank.parts }

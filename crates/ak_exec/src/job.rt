@@ -13,7 +13,7 @@ ghost use Rattle.ak_exec.specs.Ready.{named, IsReady, IsTold};
 ghost use Rattle.ak_exec.specs.Steps.{Takes, ended_by, after_is, progress_of, Ends};
 
 use crate::parts::Parts;
-use crate::statement::{run_statement, Step};
+use crate::statement::{Step, run_statement};
 use ak_base::list::{Items, NoMemory};
 use ak_base::number::{Ctx, IvarNo, Num};
 use ak_frames::frame::{Frame, Ret, Task};

@@ -5,7 +5,7 @@ ghost use Rattle.ak_machine.specs.Effect.{local, number_of, name_of};
 ghost use Rattle.ak_exec.specs.Ready.{IsNum, IsName};
 
 use ak_base::number::{IvarNo, Num};
-use ak_frames::value::{Value, Vals};
+use ak_frames::value::{Vals, Value};
 
 /// The value of a local.
 pub fn local_at(vals: &Vals, k: usize) -> Value

@@ -6,7 +6,7 @@ ghost use Rattle.ak_machine.specs.Statement.{effect_of};
 ghost use Rattle.ak_exec.specs.Ready.{named, IsNumAt, IsDeferredAt, IsBound, AreBound, IsReady};
 ghost use Rattle.ak_exec.specs.Steps.{Takes};
 
-use crate::arithmetic::{compute, Given};
+use crate::arithmetic::{Given, compute};
 use crate::parts::Parts;
 use ak_base::list::NoMemory;
 use ak_base::number::{Ctx, Num};
@@ -260,9 +260,7 @@ pub fn run_statement(
         NumStmt::Fill { i, a } => fill(parts, ctx, vals, *i, *a),
         NumStmt::Offer { i, a } => offer(parts, ctx, vals, *i, *a),
         NumStmt::Upon { d, proc, args } => upon(alloc, parts, ctx, vals, *d, *proc, args),
-        NumStmt::Bind { r, d, proc, args } => {
-            bind(alloc, parts, ctx, vals, *r, *d, *proc, args)
-        }
+        NumStmt::Bind { r, d, proc, args } => { bind(alloc, parts, ctx, vals, *r, *d, *proc, args) }
         NumStmt::Sched { proc, args } => sched(alloc, parts, ctx, vals, *proc, args),
         NumStmt::Low { proc, args } => low(alloc, parts, ctx, vals, *proc, args),
         NumStmt::Never { r } => never(parts, ctx, vals, *r),

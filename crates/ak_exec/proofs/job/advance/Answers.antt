@@ -1,4 +1,4 @@
-use Rattle.std.proofs.Common.{◌≡◌, ap, sym, drop, subst, length, ◌∙◌}
+use Rattle.std.proofs.Common.{◌≡◌, ap, sym, subst, length}
 use Rattle.ak_cells.specs.Names.{name_in}
 use Rattle.ak_machine.specs.Mapped.{ret_mapped}
 use Rattle.ak_exec.specs.Ready.{named}
@@ -6,7 +6,7 @@ use Rattle.ak_exec.specs.Seen.{Seen}
 use Rattle.ak_exec.specs.Fits.{RetFits, Fits}
 use Rattle.ak_exec.proofs.Lists.{cons_at}
 use Rattle.ak_exec.proofs.Typed.{head_told, head_ready, way_goes}
-use Rattle.ak_exec.proofs.Way.{line_goes, line_ends, ended_same, ended_returned}
+use Rattle.ak_exec.proofs.Way.{line_goes, ended_same, ended_returned}
 use Rattle.ak_exec.proofs.job.advance.Goals as goal
 
 pub run_line-requires-clause-told : goal.run_line-requires-clause-told

@@ -1,4 +1,4 @@
-use Rattle.std.proofs.Common.{◌∙◌, sym, rules}
+use Rattle.std.proofs.Common.{◌∙◌, sym}
 use Rattle.ak_exec.proofs.Stands.{next_turn}
 use Rattle.ak_exec.proofs.parts.wake_all.Goals as goal
 

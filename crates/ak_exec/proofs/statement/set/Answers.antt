@@ -1,8 +1,7 @@
-use Rattle.std.proofs.Common.{◌≡◌, ◌++◌, ◌∷◌, [], List, rules, refl}
+use Rattle.std.proofs.Common.{◌≡◌, ◌++◌, ◌∷◌, [], rules, refl}
 use Rattle.std.proofs.lemmas.List.{map-append}
-use Rattle.ak_frames.specs.declared.value.Value.{Value}
 use Rattle.ak_frames.specs.declared.value.Value.TheVariants.{Num}
-use Rattle.ak_machine.specs.Number.{Computed, Gives, computed}
+use Rattle.ak_machine.specs.Number.{Gives, computed}
 use Rattle.ak_machine.specs.Effect.{number_in}
 use Rattle.ak_exec.specs.Ready.{named}
 use Rattle.ak_exec.proofs.statement.set.Goals as goal

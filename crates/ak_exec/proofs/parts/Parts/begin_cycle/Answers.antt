@@ -1,6 +1,5 @@
-use Rattle.std.proofs.Common.{sym, ◌∙◌}
+use Rattle.std.proofs.Common.{◌∙◌}
 use Rattle.ak_cells.specs.Names.{name_in, trimmed}
-use Rattle.ak_rings.specs.Queues.{recounted}
 use Rattle.ak_exec.proofs.Picks.{has_pick_mapped}
 use Rattle.ak_exec.proofs.Stands.{more_seen}
 use Rattle.ak_exec.proofs.parts.Parts.begin_cycle.Goals as goal

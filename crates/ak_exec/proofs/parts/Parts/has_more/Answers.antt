@@ -1,4 +1,3 @@
-use Rattle.std.proofs.Common.{◌≡◌, ap, sym, ◌∙◌}
 use Rattle.ak_exec.proofs.Stands.{more_seen}
 use Rattle.ak_exec.proofs.parts.Parts.has_more.Goals as goal
 

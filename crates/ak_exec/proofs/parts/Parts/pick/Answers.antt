@@ -1,8 +1,5 @@
-use Rattle.std.proofs.Common.{◌≡◌, ap, sym, ◌∙◌, rules}
-use Rattle.std.specs.Option.{option_map}
+use Rattle.std.proofs.Common.{sym}
 use Rattle.ak_cells.specs.Names.{name_in, trimmed}
-use Rattle.ak_machine.specs.Mapped.{job_mapped}
-use Rattle.ak_exec.specs.Seen.{Seen, seen}
 use Rattle.ak_exec.proofs.Picks.{pick_mapped}
 use Rattle.ak_exec.proofs.Stands.{seen_pick}
 use Rattle.ak_exec.proofs.parts.Parts.pick.Goals as goal

@@ -1,0 +1,131 @@
+-- One turn of a run is what the machine does on the reply to a drain that brought nothing.
+use Rattle.std.proofs.Common.{◌≡◌, ℕ, ◌+◌, ◌<◌, ◌≤◌, List, [], ◌∷◌, ◌++◌, Bool, true, false, not, cond, refl, ap, sym, subst, ◌∙◌, arith}
+use Rattle.std.specs.Prelude.{Option, Some, None, IfSome, nat_le}
+use Rattle.std.proofs.lemmas.List.{reverse-append}
+use Rattle.ak_base.specs.Lists.{is_empty_list}
+use Rattle.ak_labor.specs.declared.ask.Ask.{Ask}
+use Rattle.ak_frames.specs.declared.frame.Task.{Task}
+use Rattle.ak_rings.specs.declared.job.Job.{Job}
+use Rattle.ak_rings.specs.Queues.{pick_of, has_pick, is_some_job}
+use Rattle.ak_trace.specs.declared.entry.Entry.{Entry}
+use Rattle.ak_trace.specs.declared.entry.Entry.TheVariants as entry
+use Rattle.ak_trace.specs.declared.entry.Ending.TheVariants as ending
+use Rattle.ak_machine.specs.declared.config.Flow.{Flow}
+use Rattle.ak_machine.specs.declared.config.Flow.TheVariants as flow
+use Rattle.ak_machine.specs.State.{State}
+use Rattle.ak_machine.specs.Deferred.{noting}
+use Rattle.ak_machine.specs.Cycle.{cycle_begun, has_more}
+use Rattle.ak_machine.specs.Job.{Over, run_job}
+use Rattle.ak_machine.specs.Run.{Machine, AtDrain, picked, progressed, went, cycle_ended, ending_by, draining}
+use Rattle.ak_machine.specs.Status.{Well, AtJobLimit, status_back, status_of}
+use Rattle.ak_exec.specs.Seen.{without_pick}
+use Rattle.ak_exec.specs.Steps.{after_is, Ends}
+use Rattle.ak_exec.specs.Worlds.{Worldly, with_state, with_pick, ran_with, RunsJob}
+use Rattle.ak_cycle.specs.Turns.{at_drain, at_close, goes_to, drained_with, turns_left, IsFinished}
+
+-- ---- ends
+pub idle_ends : (t : List Entry) → status_of (t ++ entry.End ending.Idle ∷ []) ≡ Well
+idle_ends t = ap status_back (reverse-append t (entry.End ending.Idle ∷ []))
+
+pub jobs_end : (t : List Entry) → status_of (t ++ entry.End ending.Jobs ∷ []) ≡ AtJobLimit
+jobs_end t = ap status_back (reverse-append t (entry.End ending.Jobs ∷ []))
+
+pub flow_ends : (f : Flow) (t : List Entry) → (f ≡ flow.On → ⊥) → Ends f t → IsFinished (status_of t)
+flow_ends flow.On t n e = absurd (n refl)
+flow_ends flow.Stopped t n e = subst IsFinished (sym e) tt
+flow_ends (flow.Unhandled num) t n e = subst IsFinished (sym e) tt
+
+-- ---- a job runs
+pub there_is : (o : Option (Job Task)) → is_some_job o ≡ true → (job : Job Task) × (o ≡ Some job)
+there_is (Some job) e = (job, refl)
+there_is None e = absurd (cc)
+
+job_runs_at : (w : Worldly) (o : Option (Job Task)) (s : State) (f : Flow) (asked : List Ask) → is_some_job o ≡ true → nat_le w.config.jobs w.ran ≡ false
+    → IfSome o (λ job. run_job w.program.procs job (without_pick w.plain) ≡ Over (after_is f s))
+    → picked w.program.procs w.config o w.plain (record { state = w.plain; ran = w.ran; asks = asked; waits = []; place = AtDrain })
+    ≡ went (after_is f s) (record { state = w.plain; ran = ran_with o w.ran; asks = asked; waits = []; place = AtDrain })
+job_runs_at w (Some job) s f asked e unspent h =
+    ap (λ b. cond b (ending_by ending.Jobs w.plain (record { state = w.plain; ran = w.ran; asks = asked; waits = []; place = AtDrain })) (progressed (run_job w.program.procs job (without_pick w.plain)) (record { state = w.plain; ran = w.ran + 1; asks = asked; waits = []; place = AtDrain }))) unspent
+    ∙ ap (λ p. progressed p (record { state = w.plain; ran = w.ran + 1; asks = asked; waits = []; place = AtDrain })) h
+job_runs_at w None s f asked e unspent h = absurd (cc)
+
+abbrev pub is_on : Flow → Bool
+is_on flow.On = true
+is_on flow.Stopped = false
+is_on (flow.Unhandled num) = false
+
+went_to : (w : Worldly) (f : Flow) (s : State) (ran : ℕ) (asked : List Ask) → went (after_is f s) (record { state = w.plain; ran = ran; asks = asked; waits = []; place = AtDrain }) ≡ goes_to (is_on f) (record w { plain = s; picked = None; ran = ran }) asked
+went_to w flow.On s ran asked = refl
+went_to w flow.Stopped s ran asked = refl
+went_to w (flow.Unhandled num) s ran asked = refl
+
+-- the machine after the job that the world picked and ran
+pub job_goes : (w w' : Worldly) (f : Flow) (asked : List Ask) → has_pick w.plain.queues ≡ true → nat_le w.config.jobs w.ran ≡ false → RunsJob (with_pick w) f w'.plain → w' ≡ record (with_pick w) { plain = w'.plain; picked = None } → drained_with w asked ≡ goes_to (is_on f) w' asked
+job_goes w w' f asked e unspent h is =
+    job_runs_at w (pick_of w.plain.queues) w'.plain f asked e unspent h
+    ∙ went_to w f w'.plain (ran_with (pick_of w.plain.queues) w.ran) asked
+    ∙ ap (λ (x : Worldly). goes_to (is_on f) x asked) (sym is)
+
+-- ---- the limit of jobs
+limit_at : (w : Worldly) (o : Option (Job Task)) (asked : List Ask) → is_some_job o ≡ true → nat_le w.config.jobs w.ran ≡ true
+    → picked w.program.procs w.config o w.plain (record { state = w.plain; ran = w.ran; asks = asked; waits = []; place = AtDrain }) ≡ at_close (with_state (noting (entry.End ending.Jobs) w.plain) w) asked
+limit_at w (Some job) asked e spent =
+    ap (λ b. cond b (ending_by ending.Jobs w.plain (record { state = w.plain; ran = w.ran; asks = asked; waits = []; place = AtDrain })) (progressed (run_job w.program.procs job (without_pick w.plain)) (record { state = w.plain; ran = w.ran + 1; asks = asked; waits = []; place = AtDrain }))) spent
+limit_at w None asked e spent = absurd (cc)
+
+pub limit_closes : (w w' : Worldly) (asked : List Ask) → has_pick w.plain.queues ≡ true → nat_le w.config.jobs w.ran ≡ true → w' ≡ with_state (noting (entry.End ending.Jobs) w.plain) w → drained_with w asked ≡ at_close w' asked
+limit_closes w w' asked e spent is = limit_at w (pick_of w.plain.queues) asked e spent ∙ ap (λ (x : Worldly). at_close x asked) (sym is)
+
+-- ---- a cycle ends
+ended_at : (w : Worldly) (o : Option (Job Task)) (asked : List Ask) → is_some_job o ≡ false
+    → picked w.program.procs w.config o w.plain (record { state = w.plain; ran = w.ran; asks = asked; waits = []; place = AtDrain }) ≡ cycle_ended w.config w.plain (record { state = w.plain; ran = w.ran; asks = asked; waits = []; place = AtDrain })
+ended_at w None asked e = refl
+ended_at w (Some job) asked e = absurd (cc)
+
+goes_on_at : (w : Worldly) (asked : List Ask) (b : Bool) (other : Machine) → b ≡ true → cond b (draining (cycle_begun w.plain) (record { state = w.plain; ran = w.ran; asks = asked; waits = []; place = AtDrain })) other ≡ at_drain (with_state (cycle_begun w.plain) w) asked
+goes_on_at w asked true other e = refl
+goes_on_at w asked false other e = absurd (cc)
+
+pub cycle_goes : (w w' : Worldly) (asked : List Ask) → has_pick w.plain.queues ≡ false → has_more w.plain ≡ true → w' ≡ with_state (cycle_begun w.plain) w → drained_with w asked ≡ at_drain w' asked
+cycle_goes w w' asked e m is = ended_at w (pick_of w.plain.queues) asked e ∙ goes_on_at w asked (has_more w.plain) _ m ∙ ap (λ (x : Worldly). at_drain x asked) (sym is)
+
+idle_at : (w : Worldly) (asked : List Ask) (b c : Bool) (other third : Machine) → b ≡ false → c ≡ true → cond b other (cond c (ending_by ending.Idle w.plain (record { state = w.plain; ran = w.ran; asks = asked; waits = []; place = AtDrain })) third) ≡ at_close (with_state (noting (entry.End ending.Idle) w.plain) w) asked
+idle_at w asked false true other third e d = refl
+idle_at w asked true c other third e d = absurd (cc)
+idle_at w asked false false other third e d = absurd (cc)
+
+empty_by : (b c : Bool) → c ≡ not b → c ≡ false → b ≡ true
+empty_by true c e f = refl
+empty_by false c e f = absurd (cc)
+
+pub idle_closes : (w w' : Worldly) (asked : List Ask) (works : Bool) → has_pick w.plain.queues ≡ false → has_more w.plain ≡ false → works ≡ not (is_empty_list w.plain.works) → works ≡ false → w' ≡ with_state (noting (entry.End ending.Idle) w.plain) w → drained_with w asked ≡ at_close w' asked
+idle_closes w w' asked works e m d n is =
+    ended_at w (pick_of w.plain.queues) asked e
+    ∙ idle_at w asked (has_more w.plain) (is_empty_list w.plain.works) _ _ m (empty_by (is_empty_list w.plain.works) works d n)
+    ∙ ap (λ (x : Worldly). at_close x asked) (sym is)
+
+-- ---- the turns that are left
+few : (b : Bool) → cond b 0 1 ≤ 1
+few true = omega arith
+few false = omega arith
+
+ran_one : (o : Option (Job Task)) (n : ℕ) → is_some_job o ≡ true → ran_with o n ≡ n + 1
+ran_one (Some job) n e = refl
+ran_one None n e = absurd (cc)
+
+pub job_leaves : (w w' : Worldly) → has_pick w.plain.queues ≡ true → w.ran < w.config.jobs → w' ≡ record (with_pick w) { plain = w'.plain; picked = None } → turns_left w' < turns_left w
+job_leaves w w' e unspent is =
+    let c : w'.config ≡ w.config = ap (λ (x : Worldly). x.config) is
+    in let r : w'.ran ≡ w.ran + 1 = ap (λ (x : Worldly). x.ran) is ∙ ran_one (pick_of w.plain.queues) w.ran e
+    in let j : w'.config.jobs ≡ w.config.jobs = ap (λ (x : Worldly). x.config.jobs) is
+    in let f = few (has_pick w'.plain.queues)
+    in omega (arith, r, j, f, unspent)
+
+pub cycle_leaves : (w w' : Worldly) → has_pick w.plain.queues ≡ false → has_pick w'.plain.queues ≡ true → w'.config ≡ w.config → w'.ran ≡ w.ran → turns_left w' < turns_left w
+cycle_leaves w w' e d c r =
+    let j : w'.config.jobs ≡ w.config.jobs = ap (λ x. x.jobs) c
+    in let one : ℕ = 1
+    in let a : cond (has_pick w.plain.queues) 0 1 ≡ one = ap (λ b. cond b 0 1) e
+    in let none : ℕ = 0
+    in let b : cond (has_pick w'.plain.queues) 0 1 ≡ none = ap (λ b. cond b 0 1) d
+    in omega (arith, j, a, b, r)

@@ -1,0 +1,61 @@
+-- One turn of a run: what follows the reply to a drain, up to the next drain or the close.
+use Rattle.std.specs.Prelude.{ℕ, ◌+◌, ◌-◌, ◌*◌, ◌≡◌, List, [], ◌∷◌, ◌++◌, Bool, true, false, None, if◌then◌else◌}
+use Rattle.std.specs.List.{filter_map}
+use Rattle.ak_labor.specs.declared.ask.Ask.{Ask}
+use Rattle.ak_labor.specs.declared.ask.Ask.TheVariants as ask
+use Rattle.ak_labor.specs.Calls.{Reply, IsOpen}
+use Rattle.ak_labor.specs.Waits.{handed_by}
+use Rattle.ak_rings.specs.Queues.{pick_of, has_pick}
+use Rattle.ak_machine.specs.declared.config.Config.{Config}
+use Rattle.ak_machine.specs.Run.{Machine, AtDrain, AtClose, picked, machine_after}
+use Rattle.ak_machine.specs.Status.{Stat, Well, ByError, AtJobLimit, Stuck, Unfinished, status_of}
+use Rattle.ak_program.specs.Programs.{NumProgram}
+use Rattle.ak_exec.specs.Worlds.{Worldly, IsWhole}
+
+-- the machine that waits for the reply to a drain, where these were asked before
+abbrev pub at_drain : Worldly → List Ask → Machine
+at_drain w asked = record { state = w.plain; ran = w.ran; asks = asked ++ ask.Drain ∷ []; waits = []; place = AtDrain }
+
+-- the machine that waits for the reply to the close
+abbrev pub at_close : Worldly → List Ask → Machine
+at_close w asked = record { state = w.plain; ran = w.ran; asks = asked ++ ask.Close ∷ []; waits = []; place = AtClose }
+
+-- the machine that drains again where the run goes on, and else closes
+abbrev pub goes_to : Bool → Worldly → List Ask → Machine
+goes_to true w asked = at_drain w asked
+goes_to false w asked = at_close w asked
+
+-- the machine after a drain that brought nothing
+abbrev pub drained_with : Worldly → List Ask → Machine
+drained_with w asked =
+    picked w.program.procs w.config (pick_of w.plain.queues) w.plain
+    (record { state = w.plain; ran = w.ran; asks = asked; waits = []; place = AtDrain })
+
+-- the trace has its end
+abbrev pub IsFinished : Stat → Type 0
+IsFinished Well = Unit {0}
+IsFinished (ByError num) = Unit {0}
+IsFinished AtJobLimit = Unit {0}
+IsFinished Stuck = Unit {0}
+IsFinished Unfinished = ⊥
+
+-- how many turns may follow: two for each job that is left, and one where no job can be picked now
+abbrev pub turns_left : Worldly → ℕ
+turns_left w = 2 * (w.config.jobs - w.ran) + (if has_pick w.plain.queues then 0 else 1)
+
+-- the same where the run goes on, and else none
+abbrev pub left_where : Bool → Worldly → ℕ
+left_where on w = if on then 1 + turns_left w else 0
+
+-- a run under way over a port: the machine on the port's replies drains next, or closes next where the run doesn't go on, and the
+-- port was asked and replied what the machine asks; no work was handed in
+pub record IsAt (on : Bool) (program : NumProgram) (config : Config) (w : Worldly) (asked : List Ask) (replies : List Reply) (waits : List ℕ) : Type 0 where
+  pub whole : IsWhole w
+  pub free : w.picked ≡ None
+  pub program_is : w.program ≡ program
+  pub config_is : w.config ≡ config
+  pub machine : machine_after program.procs program.main config replies ≡ goes_to on w asked
+  pub finished : on ≡ false → IsFinished (status_of w.plain.trace)
+  pub opened : IsOpen asked replies
+  pub no_work : filter_map handed_by asked ≡ []
+  pub no_wait : waits ≡ []
