@@ -1,6 +1,6 @@
 -- Groups of `all`, `any` and `choose`, and guards of `try`, as the list of them. From Async's documentation of `choose`, of
 -- which one choice runs at the most; the parts of an `all` are own.
-use Rattle.std.specs.Prelude.{ℕ, ℤ, List, [], ◌∷◌, ◌++◌, Bool, true, false, Option, Some, None, slice_index_or, slice_set, replicate}
+use Rattle.std.specs.Prelude.{ℕ, ℤ, List, [], ◌∷◌, ◌++◌, Bool, true, false, Option, Some, None, slice_index_or, slice_set, replicate, is_some}
 use Rattle.ak_base.specs.Lists.{rest_of}
 
 -- a group: whether it is decided, the registrations that were noted for it, oldest first, and the number of each part
@@ -16,6 +16,10 @@ no_group = record { decided = true; notes = []; parts = [] }
 -- the group of a number
 abbrev pub group_in : List Group → ℕ → Group
 group_in groups g = slice_index_or groups g no_group
+
+-- an undecided group with so many parts without a number
+abbrev pub fresh_group : ℕ → Group
+fresh_group parts = record { decided = false; notes = []; parts = replicate parts None }
 
 -- one more group, undecided, with so many parts without a number; its own number is how many groups there were
 abbrev pub with_group : ℕ → List Group → List Group
@@ -52,3 +56,7 @@ abbrev pub all_numbers : List (Option ℤ) → Option (List ℤ)
 all_numbers [] = Some []
 all_numbers (None ∷ parts) = None
 all_numbers (Some v ∷ parts) = elim (all_numbers parts) [ None ↦ None | Some numbers ↦ Some (v ∷ numbers) ]
+
+-- whether every part has a number
+abbrev pub has_all : List (Option ℤ) → Bool
+has_all parts = is_some (all_numbers parts)

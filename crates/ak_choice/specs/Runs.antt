@@ -1,0 +1,42 @@
+-- Runs of calls of the groups, and how often they decide a group.
+use Rattle.std.specs.Prelude.{ℕ, ℤ, ◌+◌, List, [], ◌∷◌, Bool, true, false, ◌==◌, if◌then◌else◌}
+use Rattle.ak_choice.specs.Groups.{Group, group_in, with_group, with_note, note_taken, with_decided, part_set}
+
+-- a call that changes the groups
+pub data Call : Type 0 where
+  Begin : (parts : ℕ) → Call
+  Note : (g registration : ℕ) → Call
+  NextNote : (g : ℕ) → Call
+  Decide : (g : ℕ) → Call
+  SetPart : (g k : ℕ) → (v : ℤ) → Call
+
+-- the groups after a call
+abbrev pub called : Call → List Group → List Group
+called (Begin parts) groups = with_group parts groups
+called (Note g registration) groups = with_note g registration groups
+called (NextNote g) groups = note_taken g groups
+called (Decide g) groups = with_decided g groups
+called (SetPart g k v) groups = part_set g k v groups
+
+-- the groups after calls
+abbrev pub after : List Call → List Group → List Group
+after [] groups = groups
+after (call ∷ calls) groups = after calls (called call groups)
+
+-- 1 where a group is undecided, and else 0
+abbrev pub decision : Bool → ℕ
+decision true = 0
+decision false = 1
+
+-- how often a call decides a group that was undecided
+abbrev pub decided_by : ℕ → Call → List Group → ℕ
+decided_by g (Begin parts) groups = 0
+decided_by g (Note h registration) groups = 0
+decided_by g (NextNote h) groups = 0
+decided_by g (Decide h) groups = if h == g then decision (group_in groups g).decided else 0
+decided_by g (SetPart h k v) groups = 0
+
+-- how often calls decide a group that was undecided
+abbrev pub decisions : ℕ → List Call → List Group → ℕ
+decisions g [] groups = 0
+decisions g (call ∷ calls) groups = decided_by g call groups + decisions g calls (called call groups)
