@@ -1,0 +1,4 @@
+pub mod Overs
+pub mod Bodies
+pub mod Done
+pub mod Kept

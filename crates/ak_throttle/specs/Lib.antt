@@ -1,1 +1,4 @@
 pub mod Throttle
+pub mod Started
+pub mod Seen
+pub mod Story
