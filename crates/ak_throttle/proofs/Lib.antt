@@ -2,3 +2,4 @@ pub mod Overs
 pub mod Bodies
 pub mod Done
 pub mod Kept
+pub mod Order

@@ -2,3 +2,4 @@ pub mod Throttle
 pub mod Started
 pub mod Seen
 pub mod Story
+pub mod Runs

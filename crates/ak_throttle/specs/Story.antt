@@ -1,6 +1,6 @@
 -- A small story: of four bodies two run at once; one ends, and then one fails and stops the throttle.
 use Rattle.std.specs.Prelude.{ℕ, true}
-use Rattle.ak_throttle.specs.Throttle.{Throttle, fresh_throttle, enqueued, after_end, after_failure, with_mark, dropped_taken}
+use Rattle.ak_throttle.specs.Throttle.{Throttle, fresh_throttle, enqueued, after_end, after_failure, with_mark}
 
 -- two run and two wait, and deferred 9 waits for all four
 abbrev pub four_bodies : Throttle ℕ

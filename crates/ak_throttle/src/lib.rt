@@ -2,6 +2,7 @@
 #![tactic(auto)]
 
 pub mod answer;
+pub mod law;
 mod progress;
 pub mod stage;
 pub mod story;
