@@ -100,7 +100,7 @@ impl<R> Pipe<R> {
         ensures err { OnErr result (self.new ≡ self.old) }
         ensures closed { self.old.closed ≡ true → result ≡ Err PutRefused.Closed }
     {
-        if self.closed {
+        if self.is_closed() {
             Err(PutRefused::Closed)
         } else if self.reads.is_empty() {
             self.write_item(num, i)
