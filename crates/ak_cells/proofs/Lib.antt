@@ -1,3 +1,4 @@
 pub mod Turn
 pub mod Sound
+pub mod Numbered
 pub mod Laws

@@ -6,7 +6,7 @@ ghost use Rattle.ak_cells.specs.Rooms.{none_named, fresh_named, name_of, number_
 
 use crate::registration::{Connected, FullAlready, Placed, Registration, Woken};
 use crate::steps::Steps;
-use crate::sweep::{rename_names, rename_registrations, wake, withdraw};
+use crate::sweep::{place, rename_names, rename_registrations, wake};
 use ak_base::list::NoMemory;
 use ak_base::number::{Ctx, IvarNo, Num, RegNo};
 use std::alloc::{AllocError, Global};
@@ -31,6 +31,7 @@ impl<F> Model for Cells<F> {
     ghost use Rattle.std.specs.Vec.{vec_capacity};
     ghost use Rattle.std.specs.VecDeque.{deque_len, deque_capacity};
     ghost use Rattle.ak_cells.specs.Rooms.{CellRooms, IsSound};
+    ghost use Rattle.ak_cells.specs.Numbered.{AreNumbered};
 
     ghost Value = { CellRooms F };
 
@@ -44,7 +45,7 @@ impl<F> Model for Cells<F> {
       spare_handlers = min (deque_capacity c.registrations - deque_len c.registrations) (deque_capacity c.woken - deque_len c.registrations);
     } };
 
-    ghost invariant = { λ c. IsSound (vec_len c.ivars) c.names.items × (deque_len c.registrations ≤ deque_capacity c.woken) };
+    ghost invariant = { λ c. IsSound (vec_len c.ivars) c.names.items × (deque_len c.registrations ≤ deque_capacity c.woken) × AreNumbered 0 c.next c.registrations.items };
 }
 
 impl<F> Cells<F> {
@@ -153,14 +154,14 @@ impl<F> Cells<F> {
     /// Takes the handler of that number out and gives its frame: `None` exactly where none of that number waits, and
     /// nothing changes then.
     pub fn unregister(&mut self, reg: RegNo) -> Option<F>
-    where
-        F: Drop,
         ensures frame { result ≡ frame_of reg self.old.named }
         ensures named { self.new.named ≡ unregistered_named reg self.old.named }
         ensures handlers { self.old.spare_handlers ≤ self.new.spare_handlers }
         ensures ivars { self.new.spare_ivars ≡ self.old.spare_ivars }
     {
-        withdraw(&mut self.registrations, reg)
+        let k = place(&self.registrations, reg)?;
+        let Registration { frame, .. } = self.registrations.remove(k)?;
+        Some(frame)
     }
 
     /// Fills an ivar that was drawn, while no handler is woken: those that wait for it are woken, oldest first.

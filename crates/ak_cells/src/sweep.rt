@@ -1,12 +1,12 @@
 //! One sweep over all registrations, or over all names.
 
-ghost use Rattle.std.specs.Prelude.{◌≡◌, ◌+◌, ◌<◌, ◌≤◌, ◌++◌, map, filter, find, vec_len};
+ghost use Rattle.std.specs.Prelude.{◌≡◌, ◌+◌, ◌<◌, ◌≤◌, ◌++◌, None, MatchOption, map, filter, find, slice_get, vec_len};
 ghost use Rattle.std.specs.Vec.{vec_capacity};
 ghost use Rattle.std.specs.VecDeque.{deque_len, deque_capacity};
 ghost use Rattle.ak_cells.specs.Names.{renamed};
-ghost use Rattle.ak_cells.specs.Cells.{is_on, is_off, is_other, registration_renamed};
-ghost use Rattle.ak_cells.specs.Rooms.{woken_by, has_number, frame_in};
-ghost use Rattle.ak_cells.specs.Turns.{front_kept, front_woken, front_renamed, front_other, front_frame, frame_or};
+ghost use Rattle.ak_cells.specs.Cells.{is_on, is_off, registration_renamed};
+ghost use Rattle.ak_cells.specs.Rooms.{woken_by, has_number};
+ghost use Rattle.ak_cells.specs.Turns.{front_kept, front_woken, front_renamed};
 
 use crate::registration::{Registration, Woken};
 use ak_base::number::{IvarNo, Num, RegNo};
@@ -57,41 +57,16 @@ fn wake_front<F>(
     }
 }
 
-/// Takes the handler of that number out, and gives its frame.
-pub fn withdraw<F: Drop>(registrations: &mut VecDeque<Registration<F>>, number: RegNo) -> Option<F>
-    ensures frame { result ≡ frame_in (find (has_number number) registrations.old.items) }
-    ensures kept { registrations.new.items ≡ filter (is_other number) registrations.old.items }
-    ensures fewer { deque_len registrations.new ≤ deque_len registrations.old }
-    ensures kept_room { deque_capacity registrations.new ≡ deque_capacity registrations.old }
+/// The place of the handler of that number, where one waits.
+pub fn place<F>(registrations: &VecDeque<Registration<F>>, number: RegNo) -> Option<usize>
+    ensures { MatchOption result (find (has_number number) registrations.now.items ≡ None) (λ k. (k < deque_len registrations.now) × (find (has_number number) registrations.now.items ≡ slice_get registrations.now.items k)) }
 {
-    let mut frame = None;
     for k in 0..registrations.len() {
-        frame = withdraw_front(registrations, number, frame);
-    }
-    frame
-}
-
-// Takes the oldest handler out where it has the number, or else puts it last.
-fn withdraw_front<F: Drop>(
-    registrations: &mut VecDeque<Registration<F>>,
-    number: RegNo,
-    found: Option<F>,
-) -> Option<F>
-    requires some { 0 < deque_len registrations.old }
-    ensures frame { result ≡ frame_or found (front_frame number registrations.old.items) }
-    ensures kept { registrations.new.items ≡ front_other number registrations.old.items }
-    ensures len { deque_len registrations.new ≤ deque_len registrations.old }
-    ensures more { deque_len registrations.old ≤ deque_len registrations.new + 1 }
-    ensures kept_room { deque_capacity registrations.new ≡ deque_capacity registrations.old }
-{
-    match registrations.pop_front() {
-        Some(g) if g.number.number() == number.number() => found.or(Some(g.frame)),
-        Some(g) => {
-            registrations.push_back_reserved(g);
-            found
+        if registrations[k].number.number() == number.number() {
+            return Some(k);
         }
-        None => found,
     }
+    None
 }
 
 /// Puts `to` in place of `from` in each registration.

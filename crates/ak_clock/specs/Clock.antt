@@ -1,8 +1,12 @@
 -- The clock, its pending alarms and the pending yields. From Async's documentation of `Clock` and `yield` in outline; that
 -- the clock moves only by the script is own.
-use Rattle.std.specs.Prelude.{ℕ, ℤ, pos, ◌+◌, List, [], ◌∷◌, ◌++◌, Bool, not, ◌==◌, Option, Some, None, fold, filter, find, if◌then◌else◌, int_le, int_lt}
+use Rattle.std.specs.Prelude.{ℕ, ℤ, pos, negsuc, ◌+◌, ◌^◌, nat_lt, Result, Ok, Err, List, [], ◌∷◌, ◌++◌, Bool, not, ◌==◌, Option, Some, None, fold, filter, find, if◌then◌else◌, int_le, int_lt}
 use Rattle.ak_base.specs.Lists.{first_of, rest_of, is_empty_list}
 use Rattle.ak_clock.specs.declared.alarm.Alarm.{Alarm}
+use Rattle.ak_clock.specs.declared.alarm.AfterRefused.{AfterRefused}
+use Rattle.ak_clock.specs.declared.alarm.AfterRefused.TheVariants as after_refused
+use Rattle.ak_clock.specs.declared.alarm.TickRefused.{TickRefused}
+use Rattle.ak_clock.specs.declared.alarm.TickRefused.TheVariants as tick_refused
 
 -- the time, the pending alarms in order of their numbers, the number of the next one, and the deferreds that wait for the
 -- next cycle, oldest first
@@ -100,3 +104,30 @@ yield_taken c = record c { yields = rest_of c.yields }
 -- whether a deferred waits for the next cycle
 abbrev pub has_yield : Clock → Bool
 has_yield c = not (is_empty_list c.yields)
+
+-- whether a time has 64 bits
+abbrev pub fits : ℤ → Bool
+fits (pos n) = nat_lt n (2 ^ 63)
+fits (negsuc n) = nat_lt n (2 ^ 63)
+
+-- why an alarm at a time is not set
+abbrev pub after_refusal : ℤ → AfterRefused
+after_refusal time = if fits time then after_refused.NoMemory else after_refused.Overflow
+
+-- what a move of the clock by n to a time answers
+abbrev pub ticked : ℤ → ℤ → Result (Unit {0}) TickRefused
+ticked n time = if int_lt n (pos 0) then Err tick_refused.Negative else if fits time then Ok tt else Err tick_refused.Overflow
+
+-- the deferred of an alarm, where there is one
+abbrev pub ivar_of : Option Alarm → Option ℕ
+ivar_of None = None
+ivar_of (Some alarm) = Some alarm.ivar
+
+-- the earlier of two alarms; of equal times the first
+abbrev pub earlier : Option Alarm → Alarm → Option Alarm
+earlier None a = Some a
+earlier (Some b) a = if int_lt a.time b.time then Some a else Some b
+
+-- the earliest of the alarms so far whose time has come, and one more
+abbrev pub earliest_due : ℤ → Option Alarm → Alarm → Option Alarm
+earliest_due now best a = if is_due now a then earlier best a else best

@@ -2,3 +2,6 @@
 #![tactic(auto)]
 
 pub mod alarm;
+pub mod clock;
+pub mod law;
+pub mod story;

@@ -1,0 +1,3 @@
+mod Steps
+pub mod Kept
+pub mod Order

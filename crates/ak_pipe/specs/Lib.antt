@@ -1,1 +1,4 @@
 pub mod Pipe
+pub mod Kept
+pub mod Story
+pub mod Runs

@@ -3,6 +3,12 @@
 use Rattle.std.specs.Prelude.{ℕ, ℤ, pos, ◌+◌, nat_le, List, [], ◌∷◌, ◌++◌, Bool, true, false, not, ◌||◌, Option, Some, None, length, drop, filter, if◌then◌else◌}
 use Rattle.ak_base.specs.Lists.{first_of, rest_of, is_empty_list, without_first}
 use Rattle.ak_pipe.specs.declared.flush.Flush.{Flush}
+use Rattle.ak_pipe.specs.declared.answer.Wrote.{Wrote}
+use Rattle.ak_pipe.specs.declared.answer.PutRefused.{PutRefused}
+use Rattle.ak_pipe.specs.declared.answer.PutRefused.TheVariants.{Closed}
+use Rattle.ak_pipe.specs.declared.answer.PutRefused.TheVariants as put_refused
+use Rattle.ak_pipe.specs.declared.answer.Got.{Got}
+use Rattle.ak_pipe.specs.declared.answer.Got.TheVariants.{Item, Eof, Waits}
 
 -- the budget, the numbers ever written, how many were consumed, whether the pipe and its reader are closed, the reads that
 -- wait, the pushbacks and the flushes, each oldest first, and the reads that are owed the end, oldest first
@@ -132,3 +138,53 @@ without_owed p = record p { owed = [] }
 -- the oldest read that is owed the end is taken
 abbrev pub owed_taken : {R : Type 0} → Pipe R → Pipe R
 owed_taken p = record p { owed = rest_of p.owed }
+
+-- what a number that is written meets: the read that takes it, and whether the pipe is free then
+abbrev pub wrote : {R : Type 0} → ℤ → Pipe R → Wrote R
+wrote v p = record { served = taker_of p; free = is_free (put v p) }
+
+-- a number is written, and its deferred waits where the pipe is not free then
+abbrev pub after_write : {R : Type 0} → ℤ → ℕ → Pipe R → Pipe R
+after_write v i p = if is_free (put v p) then put v p else with_pushback i (put v p)
+
+-- why a number is not written
+abbrev pub put_refusal : {R : Type 0} → Pipe R → PutRefused
+put_refusal p = if p.closed then Closed else put_refused.NoMemory
+
+-- what a read of these items gets, by whether the pipe is closed
+abbrev pub got_from : {R : Type 0} → List ℤ → Bool → R → Got R
+got_from (v ∷ items) closed r = Item v r
+got_from [] true r = Eof r
+got_from [] false r = Waits
+
+-- what a read gets
+abbrev pub got : {R : Type 0} → R → Pipe R → Got R
+got r p = got_from (items_of p) p.closed r
+
+-- a read of these items
+abbrev pub read_from : {R : Type 0} → List ℤ → Bool → R → Pipe R → Pipe R
+read_from (v ∷ items) closed r p = consumed_one p
+read_from [] true r p = p
+read_from [] false r p = with_read r p
+
+-- a read takes the front item, or learns of the end, or waits
+abbrev pub after_read : {R : Type 0} → R → Pipe R → Pipe R
+after_read r p = read_from (items_of p) p.closed r p
+
+-- a flush waits, where it does not learn its number at once
+abbrev pub flush_kept : {R : Type 0} → Option ℤ → ℕ → Pipe R → Pipe R
+flush_kept (Some v) i p = p
+flush_kept None i p = with_flush i p
+
+-- a flush of now
+abbrev pub after_flushed : {R : Type 0} → ℕ → Pipe R → Pipe R
+after_flushed i p = flush_kept (flushed_at_once p) i p
+
+-- the deferred of a flush, with what it learns
+abbrev pub settlement : {R : Type 0} → Option Flush → Pipe R → Option (ℕ × ℤ)
+settlement None p = None
+settlement (Some flush) p = Some (flush.ivar, flush_number p flush)
+
+-- what the oldest settled flush learns, where there is one
+abbrev pub next_settlement : {R : Type 0} → Pipe R → Option (ℕ × ℤ)
+next_settlement p = settlement (first_of (settled_flushes p)) p

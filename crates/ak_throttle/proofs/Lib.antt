@@ -1,0 +1,5 @@
+pub mod Overs
+pub mod Bodies
+pub mod Done
+pub mod Kept
+pub mod Order

@@ -1,1 +1,5 @@
 pub mod Throttle
+pub mod Started
+pub mod Seen
+pub mod Story
+pub mod Runs

@@ -1,11 +1,15 @@
 -- A throttle: how far each of its bodies came. From Async's documentation of `Throttle`, which runs at most so many jobs at
 -- once and starts them in order; the two modes and the order of the steps are own.
-use Rattle.std.specs.Prelude.{ℕ, ◌+◌, nat_lt, List, [], ◌∷◌, ◌++◌, map, Bool, true, false, not, Option, Some, None, length, slice_set, take, filter, count_by, if◌then◌else◌}
+use Rattle.std.specs.Prelude.{ℕ, ◌+◌, nat_lt, List, [], ◌∷◌, ◌++◌, map, Bool, true, false, not, Option, Some, None, length, slice_get, slice_set, take, filter, count_by, if◌then◌else◌}
 use Rattle.std.specs.List.{list_all}
 use Rattle.ak_base.specs.Lists.{first_of, rest_of, without_first}
 use Rattle.ak_throttle.specs.declared.stage.Stage.{Stage}
 use Rattle.ak_throttle.specs.declared.stage.Stage.TheVariants.{Waiting, Running, Over}
 use Rattle.ak_throttle.specs.declared.stage.Mark.{Mark}
+use Rattle.ak_throttle.specs.declared.answer.Enqueued.{Enqueued}
+use Rattle.ak_throttle.specs.declared.answer.Enqueued.TheVariants.{Start, Waits}
+use Rattle.ak_throttle.specs.declared.answer.EnqueueRefused.{EnqueueRefused}
+use Rattle.ak_throttle.specs.declared.answer.EnqueueRefused.TheVariants.{Dead, NoMemory}
 
 -- how many bodies run at the most, whether a failure stops it, whether one did, each body in order of its number, the
 -- bodies that were dropped and not fetched, front first, and the deferreds that wait for bodies to be over, oldest first
@@ -138,3 +142,24 @@ next_satisfied t = first_of (satisfied_marks t)
 -- the throttle without the oldest satisfied mark
 abbrev pub satisfied_taken : {B : Type 0} → Throttle B → Throttle B
 satisfied_taken t = record t { marks = without_first (is_satisfied t.bodies) t.marks }
+
+-- how far a body came, where there is one of that number
+abbrev pub stage_in : {B : Type 0} → ℕ → Throttle B → Option (Stage B)
+stage_in n t = slice_get t.bodies n
+
+-- what becomes of a body: it starts, or waits, under the next number
+abbrev pub placed : {B : Type 0} → B → Throttle B → Enqueued B
+placed body t = if has_room t then Start (length t.bodies) body else Waits (length t.bodies)
+
+-- why a body is refused
+abbrev pub refusal : {B : Type 0} → B → Throttle B → EnqueueRefused B
+refusal body t = if t.dead then Dead body else NoMemory body
+
+-- a deferred waits until every body so far is over, where one is not
+abbrev pub awaited : {B : Type 0} → ℕ → Throttle B → Throttle B
+awaited i t = if is_done t then t else with_mark i t
+
+-- the deferred of a mark, where there is one
+abbrev pub ivar_of : Option Mark → Option ℕ
+ivar_of None = None
+ivar_of (Some mark) = Some mark.ivar
