@@ -1,0 +1,16 @@
+pub mod Items
+pub mod Growing
+pub mod Numbers
+pub mod Works
+pub mod Rows
+pub mod Submits
+pub mod Starts
+pub mod Overs
+pub mod Finishes
+pub mod Helpers
+pub mod Judging
+pub mod Legality
+pub mod Noting
+pub mod Pools
+pub mod Checks
+pub mod Tried

@@ -1,0 +1,10 @@
+pub mod Desks
+pub mod Facts
+pub mod Judged
+pub mod Kept
+pub mod KeptPools
+pub mod Pools
+pub mod Refusals
+pub mod Stands
+pub mod Takes
+pub mod Threads

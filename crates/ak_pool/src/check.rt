@@ -1,0 +1,314 @@
+//! The judge of a history.
+
+ghost use Rattle.std.specs.Prelude.{◌≡◌, ◌<◌, ◌-◌, ◌^◌, length, map, None, OnOk, IfErr, MatchBool};
+ghost use Rattle.ak_history.specs.Legal.{Legal};
+ghost use Rattle.ak_pool.specs.Desks.{thread_at, next_of, begun_by};
+ghost use Rattle.ak_pool.specs.Judged.{Fits, FitsSubmit, FitsStart, FitsFinish, FitsDrain, FitsHelper, FitsEnd, noted};
+ghost use Rattle.ak_pool.specs.Refusals.{IsRefused};
+
+use crate::desk::Desk;
+use crate::pool::Pool;
+use ak_base::list::NoMemory;
+use ak_base::number::{HelperNo, ThreadNo, WorkNo};
+use ak_history::event::{Event, History, Ids};
+use ak_labor::labor::{Labor, Plain};
+use ak_labor::work::Outcome;
+use std::alloc::{AllocError, Global};
+
+/// Why a history is refused.
+#[derive(Clone, Copy, PartialEq, Eq, Debug)]
+pub enum CheckRefused {
+    /// The first event that is not legal after those before it stands at this place, from 0.
+    Illegal { place: u32 },
+    /// There was no memory.
+    NoMemory,
+}
+
+impl From<AllocError> for CheckRefused {
+    ghost use Rattle.std.specs.Prelude.{◌≡◌};
+    ghost use Rattle.ak_pool.specs.declared.check.CheckRefused.TheVariants.{NoMemory};
+
+    ghost from_gives = { λ _ e. e ≡ NoMemory };
+
+    fn from(_error: AllocError) -> CheckRefused {
+        CheckRefused::NoMemory
+    }
+}
+
+impl Pool {
+    /// Tests whether a history of fewer than 4,294,967,295 events is legal for so many threads. It looks at each event
+    /// once, and computes the value of each work that is finished.
+    ///
+    /// # Errors
+    ///
+    /// `Illegal`, exactly at the first event that is not legal after those before it; `NoMemory`.
+    pub fn check(alloc: Global, history: &History, threads: u32) -> Result<(), CheckRefused>
+        requires { length history.now < 2 ^ 32 - 1 }
+        ensures legal { OnOk result (Legal threads history.now) }
+        ensures refused { IfErr result (IsRefused threads history.now) }
+    {
+        let mut desk = Desk::make(alloc, threads)?;
+        for (place, event) in history.as_slice().iter().enumerate() {
+            if !fits(&desk, event) {
+                return Err(CheckRefused::Illegal {
+                    place: place as u32,
+                });
+            }
+            note(&mut desk, event)?;
+        }
+        Ok(())
+    }
+}
+
+// Whether the event is legal next.
+pub(crate) fn fits(desk: &Desk, event: &Event) -> bool
+    ensures { MatchBool result (Fits desk.now event.now) (Fits desk.now event.now → ⊥) }
+{
+    match event {
+        Event::Submit {
+            id,
+            work: _,
+            helper,
+        } => fits_submit(desk, *id, helper),
+        Event::Start { thread, id } => fits_start(desk, *thread, *id),
+        Event::Finish {
+            thread,
+            id,
+            outcome,
+        } => fits_finish(desk, *thread, *id, *outcome),
+        Event::Drain { ids } => fits_drain(desk, ids),
+        Event::HelperNew { no, answer } => fits_helper(desk, *no, answer),
+        Event::HelperEnd { no } => fits_end(desk, *no),
+        Event::Close => !desk.is_closed(),
+    }
+}
+
+// Whether a work may be handed in next under the number, for the helper if one is named.
+fn fits_submit(desk: &Desk, id: WorkNo, helper: &Option<HelperNo>) -> bool
+    ensures { MatchBool result (FitsSubmit desk.now id helper.now) (FitsSubmit desk.now id helper.now → ⊥) }
+{
+    if desk.is_closed() || id.number() != desk.submits() {
+        return false;
+    }
+    desk.is_served(helper)
+}
+
+// Whether the thread may begin the work next.
+fn fits_start(desk: &Desk, thread: ThreadNo, id: WorkNo) -> bool
+    ensures { MatchBool result (FitsStart desk.now thread id) (FitsStart desk.now thread id → ⊥) }
+{
+    let place = thread.number() as usize;
+    if desk.is_closed() || place >= desk.threads() {
+        return false;
+    }
+    if desk.thread(place).running().is_some() {
+        return false;
+    }
+    match desk.next(place) {
+        None => false,
+        Some(task) => task.id.number() == id.number(),
+    }
+}
+
+// Whether the thread runs the work, and the outcome is its value.
+fn fits_finish(desk: &Desk, thread: ThreadNo, id: WorkNo, outcome: Outcome) -> bool
+    ensures { MatchBool result (FitsFinish desk.now thread id outcome) (FitsFinish desk.now thread id outcome → ⊥) }
+{
+    let place = thread.number() as usize;
+    if place >= desk.threads() {
+        return false;
+    }
+    match desk.thread(place).running() {
+        None => false,
+        Some(task) => {
+            if task.id.number() != id.number() {
+                return false;
+            }
+            let mut hand = Plain::make();
+            hand.carry(&task.work) == outcome
+        }
+    }
+}
+
+// Whether these are the finished works that were not fetched.
+fn fits_drain(desk: &Desk, ids: &Ids) -> bool
+    ensures { MatchBool result (FitsDrain desk.now ids.now) (FitsDrain desk.now ids.now → ⊥) }
+{
+    if desk.is_closed() {
+        return false;
+    }
+    are_ids(ids.as_slice(), desk.owed())
+}
+
+// Whether these are the numbers of the works, in order.
+fn are_ids(ids: &[WorkNo], works: &[(WorkNo, Outcome)]) -> bool
+    ensures { MatchBool result (ids.now ≡ map (λ work. work.0) works.now) (ids.now ≡ map (λ work. work.0) works.now → ⊥) }
+{
+    if ids.len() != works.len() {
+        return false;
+    }
+    for k in 0..ids.len() {
+        if ids[k].number() != works[k].0.number() {
+            return false;
+        }
+    }
+    true
+}
+
+// Whether a helper may be asked for next under the number, with the answer.
+fn fits_helper(desk: &Desk, no: HelperNo, answer: &Option<ThreadNo>) -> bool
+    ensures { MatchBool result (FitsHelper desk.now no answer.now) (FitsHelper desk.now no answer.now → ⊥) }
+{
+    if desk.is_closed() || no.number() != desk.helpers() {
+        return false;
+    }
+    match (answer, desk.answer()) {
+        (None, None) => true,
+        (Some(thread), Some(other)) => thread.number() == other.number(),
+        _ => false,
+    }
+}
+
+// Whether the helper may be ended next.
+fn fits_end(desk: &Desk, no: HelperNo) -> bool
+    ensures { MatchBool result (FitsEnd desk.now no) (FitsEnd desk.now no → ⊥) }
+{
+    if desk.is_closed() {
+        return false;
+    }
+    desk.place_of(no).is_some()
+}
+
+// The desk after an event that is legal.
+fn note(desk: &mut Desk, event: &Event) -> Result<(), NoMemory>
+    requires fits { Fits desk.old event.now }
+    requires submits { desk.old.submits < 2 ^ 32 - 1 }
+    requires helpers { desk.old.helpers < 2 ^ 32 - 1 }
+    ensures { OnOk result (desk.new ≡ noted event.now desk.old) }
+{
+    match event {
+        Event::Submit {
+            id: _,
+            work,
+            helper,
+        } => return desk.submit(*work, helper),
+        Event::Start { thread, id: _ } => begin(desk, *thread),
+        Event::Finish {
+            thread,
+            id,
+            outcome,
+        } => desk.finish(thread.number() as usize, *id, *outcome),
+        Event::Drain { ids: _ } => desk.fetch(),
+        Event::HelperNew { no: _, answer } => desk.note_helper(answer),
+        Event::HelperEnd { no } => desk.end_helper(*no),
+        Event::Close => desk.close(),
+    }
+    Ok(())
+}
+
+// The thread begins the work that it may start next.
+fn begin(desk: &mut Desk, thread: ThreadNo)
+    requires place { thread < length desk.old.threads }
+    requires idle { (thread_at desk.old thread).running ≡ None }
+    ensures { desk.new ≡ begun_by (next_of desk.old thread) thread desk.old }
+{
+    let _task = desk.begin(thread.number() as usize);
+}
+
+#[cfg(test)]
+mod tests {
+    use super::*;
+    use ak_base::list::Items;
+    use ak_labor::work::{Work, WorkKind};
+    use std::test::Fail;
+
+    // A helper that has a work when it ends, and a general work that waits for its thread; the last but two of the
+    // events fetches these works.
+    fn with_drain(alloc: Global, ids: Vec<WorkNo>) -> Result<History, NoMemory> {
+        let (zero, one) = (WorkNo::new(0), WorkNo::new(1));
+        let (thread, helper) = (ThreadNo::new(0), HelperNo::new(0));
+        let kind = WorkKind::Square;
+        let mut history = Items::make(alloc);
+        history.push(Event::Drain {
+            ids: Items::make(alloc),
+        })?;
+        history.push(Event::HelperNew {
+            no: helper,
+            answer: Some(thread),
+        })?;
+        history.push(Event::HelperNew {
+            no: HelperNo::new(1),
+            answer: None,
+        })?;
+        history.push(Event::Submit {
+            id: zero,
+            work: Work { kind, num: 3 },
+            helper: None,
+        })?;
+        history.push(Event::Submit {
+            id: one,
+            work: Work { kind, num: 4 },
+            helper: Some(helper),
+        })?;
+        history.push(Event::HelperEnd { no: helper })?;
+        history.push(Event::Drain {
+            ids: Items::make(alloc),
+        })?;
+        history.push(Event::Drain {
+            ids: Items::make(alloc),
+        })?;
+        history.push(Event::Start { thread, id: one })?;
+        history.push(Event::Finish {
+            thread,
+            id: one,
+            outcome: Outcome::Good(16),
+        })?;
+        history.push(Event::Start { thread, id: zero })?;
+        history.push(Event::Finish {
+            thread,
+            id: zero,
+            outcome: Outcome::Good(9),
+        })?;
+        history.push(Event::Drain {
+            ids: Items::from_vec(ids),
+        })?;
+        history.push(Event::Drain {
+            ids: Items::make(alloc),
+        })?;
+        history.push(Event::Close)?;
+        Ok(history)
+    }
+
+    fn judged<R: std::process::Abort>(
+        rt: &R,
+        alloc: Global,
+        history: &History,
+        threads: u32,
+    ) -> Result<(), CheckRefused> {
+        assert!(rt; history.len() < 100);
+        Pool::check(alloc, history, threads)
+    }
+
+    #[test]
+    fn a_drain_fetches_every_finished_work(rt: HostRuntime) -> Result<(), Fail> {
+        let (zero, one) = (WorkNo::new(0), WorkNo::new(1));
+        let history = with_drain(rt.alloc(), vec![in rt.alloc(); one, zero]?)?;
+        assert_eq!(rt; judged(&rt, rt.alloc(), &history, 1), Ok(()));
+        assert_eq!(rt;
+            judged(&rt, rt.alloc(), &history, 2),
+            Err(CheckRefused::Illegal { place: 2 })
+        );
+        for ids in [
+            vec![in rt.alloc(); one]?,
+            vec![in rt.alloc(); zero, one]?,
+            vec![in rt.alloc()]?,
+        ] {
+            let history = with_drain(rt.alloc(), ids)?;
+            assert_eq!(rt;
+                judged(&rt, rt.alloc(), &history, 1),
+                Err(CheckRefused::Illegal { place: 12 })
+            );
+        }
+        Ok(())
+    }
+}
