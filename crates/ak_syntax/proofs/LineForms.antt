@@ -13,7 +13,7 @@ use Rattle.ak_syntax.specs.declared.cursor.Cursor.{Cursor}
 use Rattle.ak_syntax.specs.declared.line_form.Form.{Form}
 use Rattle.ak_syntax.specs.declared.line_form.Form.TheVariants.{Head, Body, End}
 use Rattle.ak_syntax.specs.Keywords.{value_named, deferred_named, group_named, job_named, monitor_named, throttle_named, pipe_named, closing_named, pool_named}
-use Rattle.ak_syntax.specs.Rows.{values_rows, deferreds_rows, groups_rows, jobs_rows, monitors_rows, throttles_rows, pipes_rows, closings_rows, works_rows}
+use Rattle.ak_syntax.specs.Rows.{statement_at}
 use Rattle.ak_syntax.specs.Table.{Place, Valued, row, binds, HasDeferreds}
 use Rattle.ak_syntax.specs.Grammar.{places, prefix_places, HasNumber, MayHavePrefix}
 use Rattle.ak_syntax.specs.Faults.{IsShaped}
@@ -24,8 +24,8 @@ use Rattle.ak_syntax.proofs.Meets.{Meets}
 use Rattle.ak_syntax.proofs.Items.{name_part, atom_part}
 use Rattle.ak_syntax.proofs.Parts.{IsLast, both_last, end_last, image}
 use Rattle.ak_syntax.proofs.Shapes.{params_last, IsRowOf}
-use Rattle.ak_syntax.proofs.RowWords.{values_complete}
-use Rattle.ak_syntax.proofs.TakenRows.{values_sound}
+use Rattle.ak_syntax.proofs.RowWords.{statement_complete}
+use Rattle.ak_syntax.proofs.TakenRows.{statement_sound}
 
 -- the line of this number has the form: its first word, and those that were taken
 abbrev pub IsFormOf : ℕ → List ℕ → Cursor → Form → Cursor → Type 0
@@ -61,9 +61,9 @@ body_in number prefix s = Ok (body_of number prefix s.0, s.1)
 plain_sound : (number : ℕ) (word : List ℕ) (c left : Cursor) (f : Form) → plain_at number word c ≡ Ok (f, left) → IsFormOf number word c f left
 unfolding plain_at
 plain_sound number word c left f h =
-    let x = bind_ok (values_rows word c) (body_in number None) (f, left) h in
+    let x = bind_ok (statement_at word c) (body_in number None) (f, left) h in
     let same = ok_pair x.2 in
-    let r : IsRowOf word c x.0.0 left = subst (λ (l : Cursor). IsRowOf word c x.0.0 l) same.1 (values_sound word c x.0.1 x.0.0 x.1) in
+    let r : IsRowOf word c x.0.0 left = subst (λ (l : Cursor). IsRowOf word c x.0.0 l) same.1 (statement_sound word c x.0.1 x.0.0 x.1) in
     subst (λ (g : Form). IsFormOf number word c g left) same.0 ((tt, r.0), refl, r.1)
 
 no_items : {A : Type 0} (xs : List A) → (length xs == 0) ≡ true → xs ≡ []
@@ -74,7 +74,7 @@ abbrev bound_in : ℕ → Prefix → Stmt × Cursor → Result (Form × Cursor) 
 bound_in number prefix s = cond (length (binds s.0) == 0) (body_in number (Some prefix) s) (Err bad)
 
 abbrev worded : ℕ → Prefix → List ℕ × Cursor → Result (Form × Cursor) Bad
-worded number prefix w = values_rows w.0 w.1 >>= bound_in number prefix
+worded number prefix w = statement_at w.0 w.1 >>= bound_in number prefix
 
 abbrev Conditional : ℕ → Prefix → Cursor → Form → Cursor → Type 0
 Conditional number prefix c f left = (s : Stmt) × (body_of number (Some prefix) s ≡ f) × (binds s ≡ []) × HasDeferreds s × Meets c.faulty (row s) c.words left.faulty
@@ -84,16 +84,16 @@ cond_words : (number : ℕ) (prefix : Prefix) (words : List (List ℕ)) (faulty 
 cond_words number prefix [] faulty left f h = absurd cc
 cond_words number prefix (word ∷ words) faulty left f h =
     let c : Cursor = record { words = words; faulty = faulty } in
-    let x = bind_ok (values_rows word (record { words = words; faulty = faulty })) (bound_in number prefix) (f, left) h in
+    let x = bind_ok (statement_at word (record { words = words; faulty = faulty })) (bound_in number prefix) (f, left) h in
     of x (chosen (length (binds x.0.0) == 0) (body_in number (Some prefix) x.0) (Err bad) (good_pair f left) x.2)
   where
-    of : (x : (s : Stmt × Cursor) × (values_rows word (record { words = words; faulty = faulty }) ≡ Ok s) × (bound_in number prefix s ≡ good_pair f left))
+    of : (x : (s : Stmt × Cursor) × (statement_at word (record { words = words; faulty = faulty }) ≡ Ok s) × (bound_in number prefix s ≡ good_pair f left))
         → (((length (binds x.0.0) == 0) ≡ true) × (body_in number (Some prefix) x.0 ≡ good_pair f left)) ⊎ (((length (binds x.0.0) == 0) ≡ false) × (Err bad ≡ good_pair f left))
         → Conditional number prefix (record { words = word ∷ words; faulty = faulty }) f left
     of x (inr e) = let wrong : Err bad ≡ good_pair f left = e.1 in absurd cc
     of x (inl e) =
         let same = ok_pair e.1 in
-        let r : IsRowOf word (record { words = words; faulty = faulty }) x.0.0 left = subst (λ (l : Cursor). IsRowOf word (record { words = words; faulty = faulty }) x.0.0 l) same.1 (values_sound word (record { words = words; faulty = faulty }) x.0.1 x.0.0 x.1) in
+        let r : IsRowOf word (record { words = words; faulty = faulty }) x.0.0 left = subst (λ (l : Cursor). IsRowOf word (record { words = words; faulty = faulty }) x.0.0 l) same.1 (statement_sound word (record { words = words; faulty = faulty }) x.0.1 x.0.0 x.1) in
         (x.0.0, same.0, no_items (binds x.0.0) e.0, r.0, r.1)
 
 cond_sound : (number : ℕ) (prefix : Prefix) (c left : Cursor) (f : Form) → conditional_at number prefix c ≡ Ok (f, left) → Conditional number prefix c f left
@@ -191,30 +191,30 @@ no_form_words (Body statement) before after m = of statement.prefix m
 
 -- no statement begins with the word
 abbrev NoRow : List ℕ → Type 0
-NoRow key = (c : Cursor) → values_rows key c ≡ Err bad
+NoRow key = (c : Cursor) → statement_at key c ≡ Err bad
 
-no_row_of : (key : List ℕ) → NoRow key → (word : List ℕ) (c left : Cursor) (s : Stmt) → values_rows word c ≡ Ok (s, left) → bytes_eq word key ≡ false
+no_row_of : (key : List ℕ) → NoRow key → (word : List ℕ) (c left : Cursor) (s : Stmt) → statement_at word c ≡ Ok (s, left) → bytes_eq word key ≡ false
 no_row_of key none word c left s h = of (bytes_eq word key) refl
   where
     of : (b : Bool) → bytes_eq word key ≡ b → bytes_eq word key ≡ false
     of false e = e
     of true e = let same : word ≡ key = (bytes_eq-Decides word key).0 e in
-        let wrong : Err bad ≡ good_pair s left = sym (none c) ∙ ap (λ (w : List ℕ). values_rows w c) (sym same) ∙ h in absurd cc
+        let wrong : Err bad ≡ good_pair s left = sym (none c) ∙ ap (λ (w : List ℕ). statement_at w c) (sym same) ∙ h in absurd cc
 
 no_row_proc : NoRow (codes "proc")
-unfolding values_rows deferreds_rows groups_rows jobs_rows monitors_rows throttles_rows pipes_rows closings_rows works_rows value_named deferred_named group_named job_named monitor_named throttle_named pipe_named closing_named pool_named
+unfolding statement_at value_named deferred_named group_named job_named monitor_named throttle_named pipe_named closing_named pool_named
 no_row_proc c = refl
 
 no_row_end : NoRow (codes "end")
-unfolding values_rows deferreds_rows groups_rows jobs_rows monitors_rows throttles_rows pipes_rows closings_rows works_rows value_named deferred_named group_named job_named monitor_named throttle_named pipe_named closing_named pool_named
+unfolding statement_at value_named deferred_named group_named job_named monitor_named throttle_named pipe_named closing_named pool_named
 no_row_end c = refl
 
 no_row_if : NoRow (codes "if")
-unfolding values_rows deferreds_rows groups_rows jobs_rows monitors_rows throttles_rows pipes_rows closings_rows works_rows value_named deferred_named group_named job_named monitor_named throttle_named pipe_named closing_named pool_named
+unfolding statement_at value_named deferred_named group_named job_named monitor_named throttle_named pipe_named closing_named pool_named
 no_row_if c = refl
 
 no_row_unless : NoRow (codes "unless")
-unfolding values_rows deferreds_rows groups_rows jobs_rows monitors_rows throttles_rows pipes_rows closings_rows works_rows value_named deferred_named group_named job_named monitor_named throttle_named pipe_named closing_named pool_named
+unfolding statement_at value_named deferred_named group_named job_named monitor_named throttle_named pipe_named closing_named pool_named
 no_row_unless c = refl
 
 -- what is found for the form
@@ -229,19 +229,19 @@ plain_choice number word c p e i u = rw (p, e, i, u) refl
 plain_complete : (number : ℕ) (stmt : Stmt) (word : List ℕ) (c : Cursor) (after : Bool) → HasDeferreds stmt → Meets c.faulty (row stmt) (word ∷ c.words) after → Completes number word c (body_of number None stmt) after
 unfolding plain_at
 plain_complete number stmt word c after has m =
-    let x = values_complete stmt word c after has m in
+    let x = statement_complete stmt word c after has m in
     let choice = plain_choice number word c (no_row_of (codes "proc") no_row_proc word c x.0 stmt x.1) (no_row_of (codes "end") no_row_end word c x.0 stmt x.1)
     (no_row_of (codes "if") no_row_if word c x.0 stmt x.1) (no_row_of (codes "unless") no_row_unless word c x.0 stmt x.1) in
-    (x.0, choice ∙ bind_is (values_rows word c) (body_in number None) (stmt, x.0) x.1, x.2)
+    (x.0, choice ∙ bind_is (statement_at word c) (body_in number None) (stmt, x.0) x.1, x.2)
 
 cond_words_complete : (number : ℕ) (prefix : Prefix) (stmt : Stmt) (words : List (List ℕ)) (faulty after : Bool) → binds stmt ≡ [] → HasDeferreds stmt → Meets faulty (row stmt) words after
     → (left : Cursor) × ((word_from words faulty >>= worded number prefix) ≡ Ok (body_of number (Some prefix) stmt, left)) × (left.faulty ≡ after)
 cond_words_complete number prefix stmt [] faulty after none has m = absurd (no_words stmt faulty after m)
 cond_words_complete number prefix stmt (word ∷ words) faulty after none has m =
-    let x = values_complete stmt word (record { words = words; faulty = faulty }) after has m in
+    let x = statement_complete stmt word (record { words = words; faulty = faulty }) after has m in
     let zero_bound : (length (binds stmt) == 0) ≡ true = ap (λ (xs : List Param). length xs == 0) none in (
       x.0,
-      bind_is (values_rows word (record { words = words; faulty = faulty })) (bound_in number prefix) (stmt, x.0) x.1
+      bind_is (statement_at word (record { words = words; faulty = faulty })) (bound_in number prefix) (stmt, x.0) x.1
           ∙ if_so (length (binds stmt) == 0) (body_in number (Some prefix) (stmt, x.0)) (Err bad) zero_bound,
       x.2,
     )

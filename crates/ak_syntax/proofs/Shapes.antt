@@ -15,7 +15,7 @@ use Rattle.ak_syntax.specs.declared.cursor.Until.TheVariants.{LineEnd, Then, Wit
 use Rattle.ak_syntax.specs.Names.{is_name, is_number_word, work_word}
 use Rattle.ak_syntax.specs.Table.{Place, Exactly, Named, Valued, Typed, Stands, row, choice_places, HasDeferreds}
 use Rattle.ak_syntax.specs.Words.{Bad, bad, ◌>>=◌, Part, mapped, name_found, atom_found, param_found, plain, args_at, names_at, params_at, some_names_at, choices_from, some_choices_at, ends_list}
-use Rattle.ak_syntax.specs.Rows.{row_or, values_rows, one_name_at, one_atom_at, name_atom_at, two_names_at, work_atom_at, call_at, two_calls_at}
+use Rattle.ak_syntax.specs.Rows.{row_or, statement_at, one_name_at, one_atom_at, name_atom_at, two_names_at, work_atom_at, call_at, two_calls_at}
 use Rattle.ak_syntax.proofs.Found.{ok_pair, bind_ok, bind_is, if_not, if_so, chosen, good_pair}
 use Rattle.ak_syntax.proofs.Meets.{Meets, Case}
 use Rattle.ak_syntax.proofs.Items.{table_found, is_number, name_plain, name_part, atom_item, atom_part, work_part, param_plain}
@@ -203,12 +203,12 @@ row_sound {A} f word {good} {shape} {part} p is has c left s h =
     subst (λ (l : Cursor). IsRowOf word c s l) same.1 second
 
 pub row_complete : {A : Type 0} (f : A → Stmt) (word : List ℕ) {good : A → Type 0} {shape : A → List Place} {part : Part A} → IsLast good shape part
-    → (t : A) (w : List ℕ) (c : Cursor) (after : Bool) → values_rows word c ≡ mapped f part c → good t → Meets c.faulty (Exactly word ∷ shape t) (w ∷ c.words) after
-    → (left : Cursor) × (values_rows w c ≡ Ok (f t, left)) × (left.faulty ≡ after)
+    → (t : A) (w : List ℕ) (c : Cursor) (after : Bool) → statement_at word c ≡ mapped f part c → good t → Meets c.faulty (Exactly word ∷ shape t) (w ∷ c.words) after
+    → (left : Cursor) × (statement_at w c ≡ Ok (f t, left)) × (left.faulty ≡ after)
 row_complete f word p t w c after is g (inr m) = absurd m.0
 row_complete {A} f word {good} {shape} {part} p t w c after is g (inl m) =
     let x = p.complete c t after g m.1 in
-    (x.0, ap (λ (v : List ℕ). values_rows v c) m.0 ∙ is ∙ bind_is (part c) (image f) (t, x.0) x.1, x.2)
+    (x.0, ap (λ (v : List ℕ). statement_at v c) m.0 ∙ is ∙ bind_is (part c) (image f) (t, x.0) x.1, x.2)
 
 -- no row
 abbrev pub no_row : Part Stmt

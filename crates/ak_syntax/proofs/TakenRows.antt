@@ -23,7 +23,7 @@ use Rattle.ak_syntax.specs.declared.keyword.ClosingWord.TheVariants as closing
 use Rattle.ak_syntax.specs.declared.keyword.PoolWord.{PoolWord}
 use Rattle.ak_syntax.specs.declared.keyword.PoolWord.TheVariants as pool
 use Rattle.ak_syntax.specs.Keywords.{value_word, all_values, value_named, deferred_word, all_deferreds, deferred_named, group_word, all_groups, group_named, job_word, all_jobs, job_named, monitor_word, all_monitors, monitor_named, throttle_word, all_throttles, throttle_named, pipe_word, all_pipes, pipe_named, closing_word, all_closings, closing_named, pool_word, all_works, pool_named}
-use Rattle.ak_syntax.specs.Rows.{value_row, values_rows, deferred_row, deferreds_rows, group_row, groups_rows, job_row, jobs_rows, monitor_row, monitors_rows, throttle_row, throttles_rows, pipe_row, pipes_rows, closing_row, closings_rows, pool_row, works_rows}
+use Rattle.ak_syntax.specs.Rows.{row_or, value_row, statement_at, deferred_row, group_row, job_row, monitor_row, throttle_row, pipe_row, closing_row, pool_row}
 use Rattle.ak_syntax.proofs.Shapes.{IsRowOf, row_sound, row_or_sound, no_row, no_row_found, then_part, choices_part, some_names_last, args_last, one_name_last, one_atom_last, name_atom_last, two_names_last, work_atom_last, call_last, two_calls_last}
 use Rattle.ak_syntax.proofs.Items.{name_part, atom_part, operator_part, mode_part, count_part}
 use Rattle.ak_syntax.proofs.Parts.{both_last, end_last}
@@ -97,38 +97,6 @@ pool_row_sound pool.Helper c left s h = row_sound (λ t. Helper t.0 t.1) (codes 
 pool_row_sound pool.HelperWork c left s h = row_sound (λ t. HelperWork t.0 t.1.0 t.1.1.0 t.1.1.1) (codes "hwork") (both_last name_part (both_last name_part work_atom_last)) (λ t. refl) (λ t g. tt) c left s h
 pool_row_sound pool.HelperDone c left s h = row_sound (λ t. HelperDone t) (codes "hdone") one_name_last (λ t. refl) (λ t g. tt) c left s h
 
-works_sound : (word : List ℕ) (c left : Cursor) (s : Stmt) → works_rows word c ≡ Ok (s, left) → IsRowOf word c s left
-unfolding works_rows pool_named
-works_sound word c left s h = row_or_sound pool_word all_works word pool_row no_row c left s h (λ first. pool_row_sound first c left s) (no_row_found word c left s)
-
-closings_sound : (word : List ℕ) (c left : Cursor) (s : Stmt) → closings_rows word c ≡ Ok (s, left) → IsRowOf word c s left
-unfolding closings_rows closing_named
-closings_sound word c left s h = row_or_sound closing_word all_closings word closing_row (works_rows word) c left s h (λ first. closing_row_sound first c left s) (works_sound word c left s)
-
-pipes_sound : (word : List ℕ) (c left : Cursor) (s : Stmt) → pipes_rows word c ≡ Ok (s, left) → IsRowOf word c s left
-unfolding pipes_rows pipe_named
-pipes_sound word c left s h = row_or_sound pipe_word all_pipes word pipe_row (closings_rows word) c left s h (λ first. pipe_row_sound first c left s) (closings_sound word c left s)
-
-throttles_sound : (word : List ℕ) (c left : Cursor) (s : Stmt) → throttles_rows word c ≡ Ok (s, left) → IsRowOf word c s left
-unfolding throttles_rows throttle_named
-throttles_sound word c left s h = row_or_sound throttle_word all_throttles word throttle_row (pipes_rows word) c left s h (λ first. throttle_row_sound first c left s) (pipes_sound word c left s)
-
-monitors_sound : (word : List ℕ) (c left : Cursor) (s : Stmt) → monitors_rows word c ≡ Ok (s, left) → IsRowOf word c s left
-unfolding monitors_rows monitor_named
-monitors_sound word c left s h = row_or_sound monitor_word all_monitors word monitor_row (throttles_rows word) c left s h (λ first. monitor_row_sound first c left s) (throttles_sound word c left s)
-
-jobs_sound : (word : List ℕ) (c left : Cursor) (s : Stmt) → jobs_rows word c ≡ Ok (s, left) → IsRowOf word c s left
-unfolding jobs_rows job_named
-jobs_sound word c left s h = row_or_sound job_word all_jobs word job_row (monitors_rows word) c left s h (λ first. job_row_sound first c left s) (monitors_sound word c left s)
-
-groups_sound : (word : List ℕ) (c left : Cursor) (s : Stmt) → groups_rows word c ≡ Ok (s, left) → IsRowOf word c s left
-unfolding groups_rows group_named
-groups_sound word c left s h = row_or_sound group_word all_groups word group_row (jobs_rows word) c left s h (λ first. group_row_sound first c left s) (jobs_sound word c left s)
-
-deferreds_sound : (word : List ℕ) (c left : Cursor) (s : Stmt) → deferreds_rows word c ≡ Ok (s, left) → IsRowOf word c s left
-unfolding deferreds_rows deferred_named
-deferreds_sound word c left s h = row_or_sound deferred_word all_deferreds word deferred_row (groups_rows word) c left s h (λ first. deferred_row_sound first c left s) (groups_sound word c left s)
-
-pub values_sound : (word : List ℕ) (c left : Cursor) (s : Stmt) → values_rows word c ≡ Ok (s, left) → IsRowOf word c s left
-unfolding values_rows value_named
-values_sound word c left s h = row_or_sound value_word all_values word value_row (deferreds_rows word) c left s h (λ first. value_row_sound first c left s) (deferreds_sound word c left s)
+pub statement_sound : (word : List ℕ) (c left : Cursor) (s : Stmt) → statement_at word c ≡ Ok (s, left) → IsRowOf word c s left
+unfolding statement_at value_named deferred_named group_named job_named monitor_named throttle_named pipe_named closing_named pool_named
+statement_sound word c left s h = row_or_sound value_word all_values word value_row (row_or (deferred_named word) deferred_row (row_or (group_named word) group_row (row_or (job_named word) job_row (row_or (monitor_named word) monitor_row (row_or (throttle_named word) throttle_row (row_or (pipe_named word) pipe_row (row_or (closing_named word) closing_row (row_or (pool_named word) pool_row no_row)))))))) c left s h (λ first. value_row_sound first c left s) (λ h1. row_or_sound deferred_word all_deferreds word deferred_row (row_or (group_named word) group_row (row_or (job_named word) job_row (row_or (monitor_named word) monitor_row (row_or (throttle_named word) throttle_row (row_or (pipe_named word) pipe_row (row_or (closing_named word) closing_row (row_or (pool_named word) pool_row no_row))))))) c left s h1 (λ first. deferred_row_sound first c left s) (λ h2. row_or_sound group_word all_groups word group_row (row_or (job_named word) job_row (row_or (monitor_named word) monitor_row (row_or (throttle_named word) throttle_row (row_or (pipe_named word) pipe_row (row_or (closing_named word) closing_row (row_or (pool_named word) pool_row no_row)))))) c left s h2 (λ first. group_row_sound first c left s) (λ h3. row_or_sound job_word all_jobs word job_row (row_or (monitor_named word) monitor_row (row_or (throttle_named word) throttle_row (row_or (pipe_named word) pipe_row (row_or (closing_named word) closing_row (row_or (pool_named word) pool_row no_row))))) c left s h3 (λ first. job_row_sound first c left s) (λ h4. row_or_sound monitor_word all_monitors word monitor_row (row_or (throttle_named word) throttle_row (row_or (pipe_named word) pipe_row (row_or (closing_named word) closing_row (row_or (pool_named word) pool_row no_row)))) c left s h4 (λ first. monitor_row_sound first c left s) (λ h5. row_or_sound throttle_word all_throttles word throttle_row (row_or (pipe_named word) pipe_row (row_or (closing_named word) closing_row (row_or (pool_named word) pool_row no_row))) c left s h5 (λ first. throttle_row_sound first c left s) (λ h6. row_or_sound pipe_word all_pipes word pipe_row (row_or (closing_named word) closing_row (row_or (pool_named word) pool_row no_row)) c left s h6 (λ first. pipe_row_sound first c left s) (λ h7. row_or_sound closing_word all_closings word closing_row (row_or (pool_named word) pool_row no_row) c left s h7 (λ first. closing_row_sound first c left s) (λ h8. row_or_sound pool_word all_works word pool_row no_row c left s h8 (λ first. pool_row_sound first c left s) (λ h9. no_row_found word c left s h9)))))))))

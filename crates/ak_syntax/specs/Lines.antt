@@ -21,7 +21,7 @@ use Rattle.ak_syntax.specs.declared.refusal.ParseRefused.TheVariants as parse
 use Rattle.ak_syntax.specs.Table.{binds, longest_list}
 use Rattle.ak_syntax.specs.Grammar.{locals}
 use Rattle.ak_syntax.specs.Faults.{Front, kind_number}
-use Rattle.ak_syntax.specs.Rows.{values_rows}
+use Rattle.ak_syntax.specs.Rows.{statement_at}
 use Rattle.ak_syntax.specs.Words.{Bad, bad, ◌>>=◌, Part, both, mapped, end_at, word_at, name_at, atom_at, params_at, listed_at}
 
 -- ---- one line
@@ -33,7 +33,7 @@ end_form_at = mapped (λ t. End) end_at
 
 -- a statement that binds no name
 unfoldable pub conditional_at : ℕ → Prefix → Part Form
-conditional_at number prefix c = word_at c >>= λ w. values_rows w.0 w.1 >>= λ s. if length (binds s.0) == 0 then Ok (Body (record { line = number; prefix = Some prefix; stmt = s.0 }), s.1) else Err bad
+conditional_at number prefix c = word_at c >>= λ w. statement_at w.0 w.1 >>= λ s. if length (binds s.0) == 0 then Ok (Body (record { line = number; prefix = Some prefix; stmt = s.0 }), s.1) else Err bad
 
 unfoldable pub if_at : ℕ → Part Form
 if_at number c = atom_at c >>= λ a. conditional_at number (If a.0) a.1
@@ -42,7 +42,7 @@ unfoldable pub unless_at : ℕ → Part Form
 unless_at number c = atom_at c >>= λ a. conditional_at number (Unless a.0) a.1
 
 unfoldable pub plain_at : ℕ → List ℕ → Part Form
-plain_at number word c = values_rows word c >>= λ s. Ok (Body (record { line = number; prefix = None; stmt = s.0 }), s.1)
+plain_at number word c = statement_at word c >>= λ s. Ok (Body (record { line = number; prefix = None; stmt = s.0 }), s.1)
 
 -- the form that begins with the word
 unfoldable pub form_from : ℕ → List ℕ → Part Form

@@ -116,29 +116,6 @@ abbrev pub row_or : {K : Type 0} → Option K → (K → Part Stmt) → Part Stm
 row_or (Some first) row other = row first
 row_or None row other = other
 
-unfoldable pub works_rows : List ℕ → Part Stmt
-works_rows word = row_or (pool_named word) pool_row (λ c. Err bad)
-
-unfoldable pub closings_rows : List ℕ → Part Stmt
-closings_rows word = row_or (closing_named word) closing_row (works_rows word)
-
-unfoldable pub pipes_rows : List ℕ → Part Stmt
-pipes_rows word = row_or (pipe_named word) pipe_row (closings_rows word)
-
-unfoldable pub throttles_rows : List ℕ → Part Stmt
-throttles_rows word = row_or (throttle_named word) throttle_row (pipes_rows word)
-
-unfoldable pub monitors_rows : List ℕ → Part Stmt
-monitors_rows word = row_or (monitor_named word) monitor_row (throttles_rows word)
-
-unfoldable pub jobs_rows : List ℕ → Part Stmt
-jobs_rows word = row_or (job_named word) job_row (monitors_rows word)
-
-unfoldable pub groups_rows : List ℕ → Part Stmt
-groups_rows word = row_or (group_named word) group_row (jobs_rows word)
-
-unfoldable pub deferreds_rows : List ℕ → Part Stmt
-deferreds_rows word = row_or (deferred_named word) deferred_row (groups_rows word)
-
-unfoldable pub values_rows : List ℕ → Part Stmt
-values_rows word = row_or (value_named word) value_row (deferreds_rows word)
+-- the statement that begins with the word
+unfoldable pub statement_at : List ℕ → Part Stmt
+statement_at word = row_or (value_named word) value_row (row_or (deferred_named word) deferred_row (row_or (group_named word) group_row (row_or (job_named word) job_row (row_or (monitor_named word) monitor_row (row_or (throttle_named word) throttle_row (row_or (pipe_named word) pipe_row (row_or (closing_named word) closing_row (row_or (pool_named word) pool_row (λ c. Err bad)))))))))

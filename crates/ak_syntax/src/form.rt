@@ -8,7 +8,7 @@ use crate::cursor::Cursor;
 use crate::limit::bound_count;
 use crate::line_form::Form;
 use crate::refusal::{Fault, GrammarKind};
-use crate::rows::values;
+use crate::rows::statement;
 use ak_script::script::{Prefix, Statement};
 use std::alloc::Global;
 
@@ -60,7 +60,7 @@ fn end(words: &mut Cursor) -> Result<Form, Fault>
 fn plain(alloc: Global, number: u32, first: &[u8], words: &mut Cursor) -> Result<Form, Fault>
     ensures { Leaves (λ f. f) result words.new (plain_at number first.now words.old) }
 {
-    let stmt = values(alloc, first, words)?;
+    let stmt = statement(alloc, first, words)?;
     Ok(Form::Body(Statement {
         line: number,
         prefix: None,
@@ -97,7 +97,7 @@ fn conditional(
     ensures { Leaves (λ f. f) result words.new (conditional_at number prefix words.old) }
 {
     let first = words.word()?;
-    let stmt = values(alloc, first, words)?;
+    let stmt = statement(alloc, first, words)?;
     if bound_count(&stmt) != 0 {
         return Err(Fault::Grammar(GrammarKind::BadLine));
     }

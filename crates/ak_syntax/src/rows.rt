@@ -2,7 +2,7 @@
 
 ghost use Rattle.std.specs.Prelude.{◌≡◌};
 ghost use Rattle.ak_syntax.specs.Words.{Leaves};
-ghost use Rattle.ak_syntax.specs.Rows.{value_row, values_rows, deferred_row, deferreds_rows, group_row, groups_rows, job_row, jobs_rows, monitor_row, monitors_rows, throttle_row, throttles_rows, pipe_row, pipes_rows, closing_row, closings_rows, pool_row, works_rows};
+ghost use Rattle.ak_syntax.specs.Rows.{statement_at, value_row, deferred_row, group_row, job_row, monitor_row, throttle_row, pipe_row, closing_row, pool_row};
 
 use crate::cursor::{Cursor, Until};
 use crate::keyword::{
@@ -14,14 +14,38 @@ use ak_script::statement::Stmt;
 use std::alloc::Global;
 
 /// The statement that begins with the keyword, by the words behind it.
-#[tactic(auto, unfolding(crate::specs::Rows::values_rows))]
-pub fn values(alloc: Global, keyword: &[u8], words: &mut Cursor) -> Result<Stmt, Fault>
-    ensures { Leaves (λ x. x) result words.new (values_rows keyword.now words.old) }
+#[tactic(auto, unfolding(crate::specs::Rows::statement_at))]
+pub fn statement(alloc: Global, keyword: &[u8], words: &mut Cursor) -> Result<Stmt, Fault>
+    ensures { Leaves (λ x. x) result words.new (statement_at keyword.now words.old) }
 {
-    match ValueWord::named(keyword) {
-        Some(first) => value(alloc, first, words),
-        None => deferreds(alloc, keyword, words),
+    if let Some(first) = ValueWord::named(keyword) {
+        return value(alloc, first, words);
     }
+    if let Some(first) = DeferredWord::named(keyword) {
+        return deferred(alloc, first, words);
+    }
+    if let Some(first) = GroupWord::named(keyword) {
+        return group(alloc, first, words);
+    }
+    if let Some(first) = JobWord::named(keyword) {
+        return job(alloc, first, words);
+    }
+    if let Some(first) = MonitorWord::named(keyword) {
+        return monitor(alloc, first, words);
+    }
+    if let Some(first) = ThrottleWord::named(keyword) {
+        return throttle(alloc, first, words);
+    }
+    if let Some(first) = PipeWord::named(keyword) {
+        return pipe(alloc, first, words);
+    }
+    if let Some(first) = ClosingWord::named(keyword) {
+        return closing(alloc, first, words);
+    }
+    if let Some(first) = PoolWord::named(keyword) {
+        return pool(alloc, first, words);
+    }
+    Err(Fault::Grammar(GrammarKind::BadLine))
 }
 
 /// Statements on numbers, printing, and the end of a procedure.
@@ -54,16 +78,6 @@ fn value(alloc: Global, first: ValueWord, words: &mut Cursor) -> Result<Stmt, Fa
             words.end()?;
             Ok(Stmt::Stop)
         }
-    }
-}
-
-#[tactic(auto, unfolding(crate::specs::Rows::deferreds_rows))]
-fn deferreds(alloc: Global, keyword: &[u8], words: &mut Cursor) -> Result<Stmt, Fault>
-    ensures { Leaves (λ x. x) result words.new (deferreds_rows keyword.now words.old) }
-{
-    match DeferredWord::named(keyword) {
-        Some(first) => deferred(alloc, first, words),
-        None => groups(alloc, keyword, words),
     }
 }
 
@@ -104,16 +118,6 @@ fn deferred(alloc: Global, first: DeferredWord, words: &mut Cursor) -> Result<St
             let r = words.one_name(alloc)?;
             Ok(Stmt::Never { r })
         }
-    }
-}
-
-#[tactic(auto, unfolding(crate::specs::Rows::groups_rows))]
-fn groups(alloc: Global, keyword: &[u8], words: &mut Cursor) -> Result<Stmt, Fault>
-    ensures { Leaves (λ x. x) result words.new (groups_rows keyword.now words.old) }
-{
-    match GroupWord::named(keyword) {
-        Some(first) => group(alloc, first, words),
-        None => jobs(alloc, keyword, words),
     }
 }
 
@@ -159,16 +163,6 @@ fn group(alloc: Global, first: GroupWord, words: &mut Cursor) -> Result<Stmt, Fa
     }
 }
 
-#[tactic(auto, unfolding(crate::specs::Rows::jobs_rows))]
-fn jobs(alloc: Global, keyword: &[u8], words: &mut Cursor) -> Result<Stmt, Fault>
-    ensures { Leaves (λ x. x) result words.new (jobs_rows keyword.now words.old) }
-{
-    match JobWord::named(keyword) {
-        Some(first) => job(alloc, first, words),
-        None => monitors(alloc, keyword, words),
-    }
-}
-
 /// Statements on jobs and the clock.
 #[tactic(auto, unfolding(crate::specs::Rows::job_row))]
 fn job(alloc: Global, first: JobWord, words: &mut Cursor) -> Result<Stmt, Fault>
@@ -200,16 +194,6 @@ fn job(alloc: Global, first: JobWord, words: &mut Cursor) -> Result<Stmt, Fault>
             let n = words.one_atom(alloc)?;
             Ok(Stmt::Tick { n })
         }
-    }
-}
-
-#[tactic(auto, unfolding(crate::specs::Rows::monitors_rows))]
-fn monitors(alloc: Global, keyword: &[u8], words: &mut Cursor) -> Result<Stmt, Fault>
-    ensures { Leaves (λ x. x) result words.new (monitors_rows keyword.now words.old) }
-{
-    match MonitorWord::named(keyword) {
-        Some(first) => monitor(alloc, first, words),
-        None => throttles(alloc, keyword, words),
     }
 }
 
@@ -248,16 +232,6 @@ fn monitor(alloc: Global, first: MonitorWord, words: &mut Cursor) -> Result<Stmt
     }
 }
 
-#[tactic(auto, unfolding(crate::specs::Rows::throttles_rows))]
-fn throttles(alloc: Global, keyword: &[u8], words: &mut Cursor) -> Result<Stmt, Fault>
-    ensures { Leaves (λ x. x) result words.new (throttles_rows keyword.now words.old) }
-{
-    match ThrottleWord::named(keyword) {
-        Some(first) => throttle(alloc, first, words),
-        None => pipes(alloc, keyword, words),
-    }
-}
-
 /// Statements on throttles.
 #[tactic(auto, unfolding(crate::specs::Rows::throttle_row))]
 fn throttle(alloc: Global, first: ThrottleWord, words: &mut Cursor) -> Result<Stmt, Fault>
@@ -281,16 +255,6 @@ fn throttle(alloc: Global, first: ThrottleWord, words: &mut Cursor) -> Result<St
             let (r, t) = words.two_names(alloc)?;
             Ok(Stmt::ThrottleDone { r, t })
         }
-    }
-}
-
-#[tactic(auto, unfolding(crate::specs::Rows::pipes_rows))]
-fn pipes(alloc: Global, keyword: &[u8], words: &mut Cursor) -> Result<Stmt, Fault>
-    ensures { Leaves (λ x. x) result words.new (pipes_rows keyword.now words.old) }
-{
-    match PipeWord::named(keyword) {
-        Some(first) => pipe(alloc, first, words),
-        None => closings(alloc, keyword, words),
     }
 }
 
@@ -331,16 +295,6 @@ fn pipe(alloc: Global, first: PipeWord, words: &mut Cursor) -> Result<Stmt, Faul
     }
 }
 
-#[tactic(auto, unfolding(crate::specs::Rows::closings_rows))]
-fn closings(alloc: Global, keyword: &[u8], words: &mut Cursor) -> Result<Stmt, Fault>
-    ensures { Leaves (λ x. x) result words.new (closings_rows keyword.now words.old) }
-{
-    match ClosingWord::named(keyword) {
-        Some(first) => closing(alloc, first, words),
-        None => works(alloc, keyword, words),
-    }
-}
-
 /// Statements on the ends of pipes.
 #[tactic(auto, unfolding(crate::specs::Rows::closing_row))]
 fn closing(alloc: Global, first: ClosingWord, words: &mut Cursor) -> Result<Stmt, Fault>
@@ -359,16 +313,6 @@ fn closing(alloc: Global, first: ClosingWord, words: &mut Cursor) -> Result<Stmt
             let (r, p) = words.two_names(alloc)?;
             Ok(Stmt::Flushed { r, p })
         }
-    }
-}
-
-#[tactic(auto, unfolding(crate::specs::Rows::works_rows))]
-fn works(alloc: Global, keyword: &[u8], words: &mut Cursor) -> Result<Stmt, Fault>
-    ensures { Leaves (λ x. x) result words.new (works_rows keyword.now words.old) }
-{
-    match PoolWord::named(keyword) {
-        Some(first) => pool(alloc, first, words),
-        None => Err(Fault::Grammar(GrammarKind::BadLine)),
     }
 }
 

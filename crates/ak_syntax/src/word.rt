@@ -123,12 +123,6 @@ fn kind_named(word: &[u8]) -> Option<Kind>
         Kind::Event,
         Kind::Helper,
     ];
-    kind_among(&kinds, word)
-}
-
-fn kind_among(kinds: &[Kind], word: &[u8]) -> Option<Kind>
-    ensures { result ≡ find (λ kind. bytes_eq (kind_word kind) word.now) kinds.now }
-{
     kinds.iter().copied().find(|kind| kind_bytes(*kind) == word)
 }
 
@@ -163,12 +157,6 @@ pub fn operator_named(word: &[u8]) -> Option<Operator>
         Operator::Equal,
         Operator::NotEqual,
     ];
-    operator_among(&operators, word)
-}
-
-fn operator_among(operators: &[Operator], word: &[u8]) -> Option<Operator>
-    ensures { result ≡ find (λ operator. bytes_eq (operator_word operator) word.now) operators.now }
-{
     operators
         .iter()
         .copied()
