@@ -1,73 +1,245 @@
--- Lists that are seen place by place.
-use Rattle.std.proofs.Common.{◌≡◌, ℕ, zero, suc, ◌+◌, ◌<◌, ◌≤◌, true, false, is_some, List, [], ◌∷◌, ◌++◌, length, take, drop, map, Option, Some, None, refl, sym, ap, ◌∙◌, subst, arith}
-use Rattle.std.specs.List.{AllZip, slice_get}
+-- How the reader goes along a list.
+use Rattle.std.proofs.Common.{◌≡◌, ℕ, ◌<◌, Bool, true, false, ◌||◌, List, [], ◌∷◌, ◌++◌, length, Option, Some, None, Result, Ok, Err, refl, sym, ap, ◌∙◌, subst, cond, arith, append_assoc}
+use Rattle.std.proofs.lemmas.List.{append-nil}
+use Rattle.ak_script.specs.declared.statement.Choice.{Choice}
+use Rattle.ak_syntax.specs.declared.cursor.Cursor.{Cursor}
+use Rattle.ak_syntax.specs.declared.cursor.Until.{Until}
+use Rattle.ak_syntax.specs.declared.cursor.Until.TheVariants.{With}
+use Rattle.ak_syntax.specs.declared.refusal.Fault.{Fault}
+use Rattle.ak_syntax.specs.declared.refusal.Fault.TheVariants.{Grammar, NoMemory}
+use Rattle.ak_syntax.specs.Names.{is_name}
+use Rattle.ak_syntax.proofs.Found.{ok_pair, some_is, bind_ok, bind_is, bind_err, good_pair, if_not}
+use Rattle.ak_syntax.specs.Words.{Bad, bad, ◌>>=◌, Refuses, listed_from, listed_at, list_from, ends_list, is_line_end, name_found, name_at, word_at, choices_from, plain, word_from}
 
--- a list of one, and of two
-pub one_word : {A : Type 0} (xs : List A) (a : A) → slice_get xs 0 ≡ Some a → slice_get xs 1 ≡ None → xs ≡ a ∷ []
-one_word [] a h none = cc
-one_word (x ∷ []) a h none = let same : x ≡ a = cc in ap (λ y. y ∷ []) same
-one_word (x ∷ y ∷ xs) a h none = cc
+-- the items that were read are put in front
+abbrev pub with_front : {T : Type 0} → List T → Result (List T × Cursor) Bad → Result (List T × Cursor) Bad
+with_front front rest = rest >>= λ r. Ok (front ++ r.0, r.1)
 
-pub two_words : {A : Type 0} (xs : List A) (a b : A) → slice_get xs 0 ≡ Some a → slice_get xs 1 ≡ Some b → slice_get xs 2 ≡ None → xs ≡ a ∷ b ∷ []
-two_words [] a b h k none = cc
-two_words (x ∷ []) a b h k none = cc
-two_words (x ∷ y ∷ []) a b h k none = let first : x ≡ a = cc in let second : y ≡ b = cc in cc
-two_words (x ∷ y ∷ z ∷ xs) a b h k none = cc
+pub no_front : {T : Type 0} (rest : Result (List T × Cursor) Bad) → with_front [] rest ≡ rest
+no_front (Ok r) = refl
+no_front (Err e) = refl
 
--- what stands at a place has a partner
-pub partner : {A B : Type 0} (R : A → B → Type 0) (xs : List A) (ys : List B) (k : ℕ) (y : B) → AllZip R xs ys → slice_get ys k ≡ Some y → (x : A) × (slice_get xs k ≡ Some x) × R x y
-partner R [] [] k y h at = cc
-partner R [] (z ∷ ys) k y h at = absurd h
-partner R (x ∷ xs) [] k y h at = absurd h
-partner R (x ∷ xs) (z ∷ ys) zero y h at = let same : z ≡ y = cc in (x, refl, subst (R x) same h.0)
-partner R (x ∷ xs) (z ∷ ys) (suc k) y h at = partner R xs ys k y h.1 at
+pub one_more : {T : Type 0} (front : List T) (x : T) (rest : Result (List T × Cursor) Bad) → with_front front (with_front (x ∷ []) rest) ≡ with_front (front ++ x ∷ []) rest
+one_more front x (Ok r) = ap (λ (xs : List _). Ok (xs, r.1)) (sym (append_assoc front (x ∷ []) r.0))
+one_more front x (Err e) = refl
 
--- one more pair
-pub zip_push : {A B : Type 0} (R : A → B → Type 0) (xs : List A) (ys : List B) (x : A) (y : B) → AllZip R xs ys → R x y → AllZip R (xs ++ x ∷ []) (ys ++ y ∷ [])
-zip_push R [] [] x y h r = (r, tt)
-zip_push R [] (w ∷ ys) x y h r = absurd h
-zip_push R (v ∷ xs) [] x y h r = absurd h
-zip_push R (v ∷ xs) (w ∷ ys) x y h r = (h.0, zip_push R xs ys x y h.1 r)
+-- where the part is refused for a reason, the whole is for the same
+pub refused_as : {A B : Type 0} (e : Fault) (part : Result A Bad) (whole : Result B Bad) → Refuses e part → ((kind : Bad) → part ≡ Err kind → whole ≡ Err kind) → Refuses e whole
+refused_as (Grammar kind) part whole h to = (h.0, to bad h.1)
+refused_as NoMemory part whole h to = tt
 
--- as many on both sides
-pub zip_length : {A B : Type 0} (R : A → B → Type 0) (xs : List A) (ys : List B) → AllZip R xs ys → length xs ≡ length ys
-zip_length R [] [] h = refl
-zip_length R [] (y ∷ ys) h = absurd h
-zip_length R (x ∷ xs) [] h = absurd h
-zip_length R (x ∷ xs) (y ∷ ys) h = ap suc (zip_length R xs ys h.1)
+-- what is known of the next word of a list
+pub record Next (until : Until) (words : List (List ℕ)) (faulty : Bool) (word : List ℕ) (left : Cursor) : Type 0 where
+  pub words_are : words ≡ word ∷ left.words
+  pub flag : left.faulty ≡ faulty
+  pub goes_on : ends_list until word ≡ false
 
--- one more item of a list
-pub take_push : {A : Type 0} (xs : List A) (k : ℕ) (x : A) → slice_get xs k ≡ Some x → take (suc k) xs ≡ take k xs ++ x ∷ []
-take_push [] k x at = cc
-take_push (y ∷ xs) zero x at = let same : y ≡ x = cc in ap (λ z. z ∷ []) same
-take_push (y ∷ xs) (suc k) x at = ap (λ zs. y ∷ zs) (take_push xs k x at)
+pub next_word : (until : Until) (words : List (List ℕ)) (faulty : Bool) (word : List ℕ) (left : Cursor) → listed_from until words faulty ≡ Ok (Some word, left) → Next until words faulty word left
+next_word until [] faulty word left h = of (is_line_end until) h
+  where
+    of : (b : Bool) → cond {A = Result (Option (List ℕ) × Cursor) Bad} b (Ok (None, record { words = []; faulty = faulty })) (Err bad) ≡ Ok (Some word, left) → Next until [] faulty word left
+    of true h = let none : None ≡ Some word = (ok_pair h).0 in cc
+    of false h = cc
+next_word until (first ∷ words) faulty word left h = of (ends_list until first) refl h
+  where
+    of : (b : Bool) → ends_list until first ≡ b → good_pair (cond b None (Some first)) (record { words = words; faulty = faulty }) ≡ good_pair (Some word) left → Next until (first ∷ words) faulty word left
+    of true e h = let none : None ≡ Some word = (ok_pair h).0 in cc
+    of false e h =
+        let same : first ≡ word = some_is (ok_pair h).0 in
+        let rest : words ≡ left.words = ap (λ (c : Cursor). c.words) (ok_pair h).1 in
+        let flag : faulty ≡ left.faulty = ap (λ (c : Cursor). c.faulty) (ok_pair h).1 in
+        record { words_are = cc; flag = sym flag; goes_on = subst (λ (w : List ℕ). ends_list until w ≡ false) same e }
 
--- past the end nothing is left
-pub take_whole : {A : Type 0} (xs : List A) (k : ℕ) → slice_get xs k ≡ None → take k xs ≡ xs
-take_whole [] zero at = refl
-take_whole [] (suc k) at = refl
-take_whole (x ∷ xs) zero at = cc
-take_whole (x ∷ xs) (suc k) at = ap (λ zs. x ∷ zs) (take_whole xs k at)
+-- one more item
+pub item_read : {T : Type 0} (item : List ℕ → Result (T × Bool) Bad) (until : Until) (c left : Cursor) (word : List ℕ) (x : T) (b : Bool)
+    → listed_at until c ≡ Ok (Some word, left) → item word ≡ Ok (x, b) → list_from item until c.words c.faulty ≡ with_front (x ∷ []) (list_from item until left.words (b || left.faulty))
+unfolding listed_at list_from
+item_read item until c left word x b h is = let next = next_word until c.words c.faulty word left h in
+    rw (next.words_are) (rw (next.goes_on, is, next.flag) refl)
 
--- an item behind the first two
-pub behind_two : {A : Type 0} (xs : List A) (k : ℕ) → slice_get (drop 2 xs) k ≡ slice_get xs (k + 2)
-behind_two [] k = refl
-behind_two (x ∷ []) k = let two : k + 2 ≡ suc (suc k) = omega arith in rw two refl
-behind_two (x ∷ y ∷ xs) k = let two : k + 2 ≡ suc (suc k) = omega arith in rw two refl
+pub item_refused : {T : Type 0} (item : List ℕ → Result (T × Bool) Bad) (until : Until) (c left : Cursor) (word : List ℕ) (kind : Bad)
+    → listed_at until c ≡ Ok (Some word, left) → item word ≡ Err kind → list_from item until c.words c.faulty ≡ Err kind
+unfolding listed_at list_from
+item_refused item until c left word kind h is = let next = next_word until c.words c.faulty word left h in
+    rw (next.words_are) (rw (next.goes_on, is) refl)
 
-pub is_none : {A : Type 0} (o : Option A) → false ≡ is_some o → o ≡ None
+pub list_over : {T : Type 0} (item : List ℕ → Result (T × Bool) Bad) (until : Until) (words : List (List ℕ)) (faulty : Bool) (left : Cursor)
+    → listed_from until words faulty ≡ Ok (None, left) → list_from item until words faulty ≡ Ok ([], left)
+unfolding list_from
+list_over {T} item until [] faulty left h = of (is_line_end until) h
+  where
+    of : (b : Bool) → cond {A = Result (Option (List ℕ) × Cursor) Bad} b (Ok (None, record { words = []; faulty = faulty })) (Err bad) ≡ Ok (None, left) → cond {A = Result (List T × Cursor) Bad} b (Ok ([], record { words = []; faulty = faulty })) (Err bad) ≡ Ok ([], left)
+    of true h = ap (λ (l : Cursor). Ok ([], l)) (ok_pair h).1
+    of false h = cc
+list_over {T} item until (first ∷ words) faulty left h = of (ends_list until first) refl h
+  where
+    of : (b : Bool) → ends_list until first ≡ b → good_pair (cond b None (Some first)) (record { words = words; faulty = faulty }) ≡ good_pair None left → list_from item until (first ∷ words) faulty ≡ Ok ([], left)
+    of true e h = rw e (ap (λ (l : Cursor). Ok ([], l)) (ok_pair h).1)
+    of false e h = let none : Some first ≡ None = (ok_pair h).0 in cc
+
+pub list_refused : {T : Type 0} (item : List ℕ → Result (T × Bool) Bad) (until : Until) (words : List (List ℕ)) (faulty : Bool) (kind : Bad)
+    → listed_from until words faulty ≡ Err kind → list_from item until words faulty ≡ Err kind
+unfolding list_from
+list_refused {T} item until [] faulty kind h = of (is_line_end until) h
+  where
+    of : (b : Bool) → cond {A = Result (Option (List ℕ) × Cursor) Bad} b (Ok (None, record { words = []; faulty = faulty })) (Err bad) ≡ Err kind → cond {A = Result (List T × Cursor) Bad} b (Ok ([], record { words = []; faulty = faulty })) (Err bad) ≡ Err kind
+    of true h = cc
+    of false h = cc
+list_refused {T} item until (first ∷ words) faulty kind h = cc
+
+pub fewer_words : (until : Until) (c left : Cursor) (word : List ℕ) → listed_at until c ≡ Ok (Some word, left) → length left.words < length c.words
+unfolding listed_at
+fewer_words until c left word h = let next = next_word until c.words c.faulty word left h in rw (next.words_are) (omega arith)
+
+-- ---- a turn of a loop, the items so far put in front
+pub goes_on : {T : Type 0} (item : List ℕ → Result (T × Bool) Bad) (until : Until) (c left now : Cursor) (front pushed : List T) (word : List ℕ) (x : T) (b : Bool) (whole : Result (List T × Cursor) Bad)
+    → with_front front (list_from item until c.words c.faulty) ≡ whole → listed_at until c ≡ Ok (Some word, left) → item word ≡ Ok (x, b) → pushed ≡ front ++ x ∷ [] → now.words ≡ left.words → now.faulty ≡ (b || left.faulty)
+    → with_front pushed (list_from item until now.words now.faulty) ≡ whole
+goes_on item until c left now front pushed word x b whole so_far h is grown words flag =
+    rw (grown, words, flag) (sym (one_more front x (list_from item until left.words (b || left.faulty))) ∙ ap (with_front front) (sym (item_read item until c left word x b h is)) ∙ so_far)
+
+pub ends : {T : Type 0} (item : List ℕ → Result (T × Bool) Bad) (until : Until) (c left : Cursor) (front : List T) (whole : Result (List T × Cursor) Bad)
+    → with_front front (list_from item until c.words c.faulty) ≡ whole → listed_at until c ≡ Ok (None, left) → whole ≡ Ok (front, left)
+unfolding listed_at
+ends item until c left front whole so_far h =
+    sym so_far ∙ ap (with_front front) (list_over item until c.words c.faulty left h) ∙ ap (λ (xs : List _). Ok (xs, left)) (append-nil front)
+
+pub stops : {T : Type 0} (item : List ℕ → Result (T × Bool) Bad) (until : Until) (c : Cursor) (front : List T) (whole : Result (List T × Cursor) Bad) (kind : Bad)
+    → with_front front (list_from item until c.words c.faulty) ≡ whole → listed_at until c ≡ Err kind → whole ≡ Err kind
+unfolding listed_at
+stops item until c front whole kind so_far h = sym so_far ∙ ap (with_front front) (list_refused item until c.words c.faulty kind h)
+
+pub stops_at : {T : Type 0} (item : List ℕ → Result (T × Bool) Bad) (until : Until) (c left : Cursor) (front : List T) (word : List ℕ) (whole : Result (List T × Cursor) Bad) (kind : Bad)
+    → with_front front (list_from item until c.words c.faulty) ≡ whole → listed_at until c ≡ Ok (Some word, left) → item word ≡ Err kind → whole ≡ Err kind
+stops_at item until c left front word whole kind so_far h is = sym so_far ∙ ap (with_front front) (item_refused item until c left word kind h is)
+
+pub plain_ok : {T : Type 0} (item : List ℕ → Result T Bad) (word : List ℕ) (x : T) → item word ≡ Ok x → plain item word ≡ Ok (x, false)
+plain_ok item word x h = rw h refl
+
+pub plain_err : {T : Type 0} (item : List ℕ → Result T Bad) (word : List ℕ) (kind : Bad) → item word ≡ Err kind → plain item word ≡ Err kind
+plain_err item word kind h = rw h refl
+
+-- nothing, where it is not something
+pub is_none : {A : Type 0} (o : Option A) → ((a : A) → o ≡ Some a → ⊥) → o ≡ None
 is_none None h = refl
-is_none (Some a) h = cc
+is_none (Some a) h = absurd (h a refl)
 
-pub some_is : {A : Type 0} {a b : A} → Some a ≡ Some b → b ≡ a
-some_is h = cc
+-- ---- deferreds of a `choose`
+one_taken : (words : List (List ℕ)) (faulty : Bool) (word : List ℕ) (left : Cursor) → word_from words faulty ≡ Ok (word, left) → length left.words < length words
+one_taken [] faulty word left h = cc
+one_taken (first ∷ words) faulty word left h = let same = ap (λ (c : Cursor). c.words) (ok_pair h).1 in rw (sym same) (omega arith)
 
-pub some_of : {A : Type 0} (o : Option A) → true ≡ is_some o → (x : A) × (o ≡ Some x)
-some_of None h = cc
-some_of (Some a) h = (a, refl)
+bad_name : (word : List ℕ) (kind : Bad) → name_found word ≡ Err kind → kind ≡ bad
+bad_name word kind h = of (is_name word) h
+  where
+    of : (b : Bool) → cond {A = Result (List ℕ) Bad} b (Ok word) (Err bad) ≡ Err kind → kind ≡ bad
+    of true h = cc
+    of false h = cc
 
--- a list by its first two items
-pub first_two : {A : Type 0} (xs : List A) (a b : A) → slice_get xs 0 ≡ Some a → slice_get xs 1 ≡ Some b → xs ≡ a ∷ b ∷ drop 2 xs
-first_two [] a b h k = cc
-first_two (x ∷ []) a b h k = cc
-first_two (x ∷ y ∷ xs) a b h k = let first : x ≡ a = cc in let second : y ≡ b = cc in cc
+-- a deferred and its procedure
+abbrev name_from : List (List ℕ) → Bool → Result (List ℕ × Cursor) Bad
+name_from words faulty = word_from words faulty >>= λ w. name_found w.0 >>= λ n. Ok (n, w.1)
+
+abbrev choice_then : List ℕ → List ℕ → Result (List Choice × Cursor) Bad → Result (List Choice × Cursor) Bad
+choice_then d proc rest = rest >>= λ r. Ok (record { d = d; proc = proc } ∷ r.0, r.1)
+
+two_more : (word next : List ℕ) (words : List (List ℕ)) (faulty : Bool) → ends_list With word ≡ false
+    → choices_from (word ∷ next ∷ words) faulty ≡ (name_found word >>= λ d. name_found next >>= λ p. choice_then d p (choices_from words faulty))
+unfolding choices_from
+two_more word next words faulty goes = if_not (ends_list With word) (Ok ([], record { words = next ∷ words; faulty = faulty })) (name_found word >>= λ d. name_found next >>= λ p. choice_then d p (choices_from words faulty)) goes
+
+abbrev named_then : List (List ℕ) → Bool → List ℕ → Result (List ℕ × Cursor) Bad
+named_then words faulty n = Ok (n, record { words = words; faulty = faulty })
+
+second_from : (word : List ℕ) (words : List (List ℕ)) (faulty : Bool) (d proc : List ℕ) (now : Cursor) → ends_list With word ≡ false → name_found word ≡ Ok d
+    → name_from words faulty ≡ Ok (proc, now)
+    → choices_from (word ∷ words) faulty ≡ with_front (record { d = d; proc = proc } ∷ []) (choices_from now.words now.faulty)
+unfolding choices_from
+second_from word [] faulty d proc now goes first h = cc
+second_from word (next ∷ words) faulty d proc now goes first h =
+    let last : List ℕ → Result (List ℕ × Cursor) Bad = λ n. Ok (n, record { words = words; faulty = faulty }) in
+    let found = bind_ok (name_found next) last (proc, now) h in
+    let same = ok_pair found.2 in
+    let second : name_found next ≡ Ok proc = found.1 ∙ ap Ok same.0 in
+    rw (sym same.1) (two_more word next words faulty goes ∙ bind_is (name_found word) (λ d. name_found next >>= λ p. choice_then d p (choices_from words faulty)) d first ∙ bind_is (name_found next) (λ p. choice_then d p (choices_from words faulty)) proc second)
+
+first_from : (word : List ℕ) (words : List (List ℕ)) (faulty : Bool) (kind : Bad) → ends_list With word ≡ false → name_found word ≡ Err kind → choices_from (word ∷ words) faulty ≡ Err kind
+unfolding choices_from
+first_from word [] faulty kind goes first = rw goes (ap Err (sym (bad_name word kind first)))
+first_from word (next ∷ words) faulty kind goes first = two_more word next words faulty goes ∙ (bind_err (name_found word) (λ d. name_found next >>= λ p. choice_then d p (choices_from words faulty)) kind first)
+
+second_bad : (word : List ℕ) (words : List (List ℕ)) (faulty : Bool) (d : List ℕ) (kind : Bad) → ends_list With word ≡ false → name_found word ≡ Ok d
+    → name_from words faulty ≡ Err kind → choices_from (word ∷ words) faulty ≡ Err kind
+unfolding choices_from
+second_bad word [] faulty d kind goes first h = let bad : bad ≡ kind = cc in rw goes (ap Err bad)
+second_bad word (next ∷ words) faulty d kind goes first h = two_more word next words faulty goes ∙ (bind_is (name_found word) (λ d. name_found next >>= λ p. choice_then d p (choices_from words faulty)) d first ∙ rest (name_found next) h)
+  where
+    rest : (r : Result (List ℕ) Bad) → (r >>= named_then words faulty) ≡ Err kind → (r >>= λ p. choice_then d p (choices_from words faulty)) ≡ Err kind
+    rest (Ok n) h = cc
+    rest (Err e) h = cc
+
+pub choice_goes_on : (c left now : Cursor) (front pushed : List Choice) (word d proc : List ℕ) (whole : Result (List Choice × Cursor) Bad)
+    → with_front front (choices_from c.words c.faulty) ≡ whole → listed_at With c ≡ Ok (Some word, left) → name_found word ≡ Ok d → name_at left ≡ Ok (proc, now)
+    → pushed ≡ front ++ record { d = d; proc = proc } ∷ [] → with_front pushed (choices_from now.words now.faulty) ≡ whole
+unfolding listed_at name_at word_at
+choice_goes_on c left now front pushed word d proc whole so_far h first second grown =
+    let next = next_word With c.words c.faulty word left h in
+    let read : choices_from c.words c.faulty ≡ with_front (record { d = d; proc = proc } ∷ []) (choices_from now.words now.faulty) =
+    rw (next.words_are, sym next.flag) (second_from word left.words left.faulty d proc now next.goes_on first second) in
+    rw grown (sym (one_more front (record { d = d; proc = proc }) (choices_from now.words now.faulty)) ∙ ap (with_front front) (sym read) ∙ so_far)
+
+pub choice_stops_at : (c left : Cursor) (front : List Choice) (word : List ℕ) (whole : Result (List Choice × Cursor) Bad) (kind : Bad)
+    → with_front front (choices_from c.words c.faulty) ≡ whole → listed_at With c ≡ Ok (Some word, left) → name_found word ≡ Err kind → whole ≡ Err kind
+unfolding listed_at
+choice_stops_at c left front word whole kind so_far h first =
+    let next = next_word With c.words c.faulty word left h in
+    let refused : choices_from c.words c.faulty ≡ Err kind = rw (next.words_are) (first_from word left.words c.faulty kind next.goes_on first) in
+    sym so_far ∙ ap (with_front front) refused
+
+pub choice_stops_second : (c left : Cursor) (front : List Choice) (word d : List ℕ) (whole : Result (List Choice × Cursor) Bad) (kind : Bad)
+    → with_front front (choices_from c.words c.faulty) ≡ whole → listed_at With c ≡ Ok (Some word, left) → name_found word ≡ Ok d → name_at left ≡ Err kind → whole ≡ Err kind
+unfolding listed_at name_at word_at
+choice_stops_second c left front word d whole kind so_far h first second =
+    let next = next_word With c.words c.faulty word left h in
+    let refused : choices_from c.words c.faulty ≡ Err kind = rw (next.words_are, sym next.flag) (second_bad word left.words left.faulty d kind next.goes_on first second) in
+    sym so_far ∙ ap (with_front front) refused
+
+pub choices_over : (words : List (List ℕ)) (faulty : Bool) (left : Cursor) → listed_from With words faulty ≡ Ok (None, left) → choices_from words faulty ≡ Ok ([], left)
+unfolding choices_from
+choices_over [] faulty left h = cc
+choices_over (first ∷ []) faulty left h = of (ends_list With first) refl h
+  where
+    of : (b : Bool) → ends_list With first ≡ b → good_pair (cond b None (Some first)) (record { words = []; faulty = faulty }) ≡ good_pair None left → choices_from (first ∷ []) faulty ≡ Ok ([], left)
+    of true e h = rw e (ap (λ (l : Cursor). Ok ([], l)) (ok_pair h).1)
+    of false e h = let none : Some first ≡ None = (ok_pair h).0 in cc
+choices_over (first ∷ next ∷ words) faulty left h = of (ends_list With first) refl h
+  where
+    of : (b : Bool) → ends_list With first ≡ b → good_pair (cond b None (Some first)) (record { words = next ∷ words; faulty = faulty }) ≡ good_pair None left → choices_from (first ∷ next ∷ words) faulty ≡ Ok ([], left)
+    of true e h = rw e (ap (λ (l : Cursor). Ok ([], l)) (ok_pair h).1)
+    of false e h = let none : Some first ≡ None = (ok_pair h).0 in cc
+
+pub choices_end : (c left : Cursor) (front : List Choice) (whole : Result (List Choice × Cursor) Bad) → with_front front (choices_from c.words c.faulty) ≡ whole → listed_at With c ≡ Ok (None, left) → whole ≡ Ok (front, left)
+unfolding listed_at
+choices_end c left front whole so_far h =
+    sym so_far ∙ ap (with_front front) (choices_over c.words c.faulty left h) ∙ ap (λ (xs : List _). Ok (xs, left)) (append-nil front)
+
+choices_bad : (words : List (List ℕ)) (faulty : Bool) (kind : Bad) → listed_from With words faulty ≡ Err kind → choices_from words faulty ≡ Err kind
+unfolding choices_from
+choices_bad [] faulty kind h = let bad : bad ≡ kind = cc in ap Err bad
+choices_bad (first ∷ words) faulty kind h = cc
+
+pub choices_stop : (c : Cursor) (front : List Choice) (whole : Result (List Choice × Cursor) Bad) (kind : Bad) → with_front front (choices_from c.words c.faulty) ≡ whole → listed_at With c ≡ Err kind → whole ≡ Err kind
+unfolding listed_at
+choices_stop c front whole kind so_far h = sym so_far ∙ ap (with_front front) (choices_bad c.words c.faulty kind h)
+
+pub fewer_choices : (c left now : Cursor) (word proc : List ℕ) → listed_at With c ≡ Ok (Some word, left) → name_at left ≡ Ok (proc, now) → length now.words < length c.words
+unfolding name_at word_at
+fewer_choices c left now word proc h second =
+    let fewer = fewer_words With c left word h in
+    let named : List ℕ × Cursor → Result (List ℕ × Cursor) Bad = λ w. name_found w.0 >>= λ n. Ok (n, w.1) in
+    let at = bind_ok (word_from left.words left.faulty) named (proc, now) second in
+    let taken : length at.0.1.words < length left.words = one_taken left.words left.faulty at.0.0 at.0.1 at.1 in
+    let ended : List ℕ → Result (List ℕ × Cursor) Bad = λ n. Ok (n, at.0.1) in
+    let last = bind_ok (name_found at.0.0) ended (proc, now) at.2 in
+    let same : at.0.1 ≡ now = (ok_pair last.2).1 in
+    rw (sym same) (omega arith)

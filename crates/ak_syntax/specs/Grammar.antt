@@ -10,7 +10,6 @@ use Rattle.ak_script.specs.declared.script.Proc.{Proc}
 use Rattle.ak_syntax.specs.declared.line_form.Form.{Form}
 use Rattle.ak_syntax.specs.declared.line_form.Form.TheVariants.{Head, Body, End}
 use Rattle.ak_script.specs.declared.statement.Stmt.{Stmt}
-use Rattle.ak_script.specs.declared.statement.Stmt.TheVariants.{Print}
 use Rattle.ak_syntax.specs.Table.{Place, Exactly, Named, Valued, Typed, Stands, row, binds, IsWithin}
 
 -- the words of a prefix
@@ -73,33 +72,8 @@ pub record Reads (bytes : List ℕ) (script : List Proc) : Type 0 where
   pub procs : length script ≤ 4096
   pub each : AllByRecursion ProcIsWithin script
 
--- what is built: `print`
-abbrev pub IsBuiltStmt : Stmt → Type 0
-IsBuiltStmt (Print a) = Unit {0}
-IsBuiltStmt _ = ⊥
-
--- a statement of what is built, without a prefix
-abbrev pub IsBuiltStatement : Statement → Type 0
-IsBuiltStatement statement = (statement.prefix ≡ None) × IsBuiltStmt statement.stmt
-
--- each statement of the script is built
-abbrev pub IsBuilt : List Proc → Type 0
-IsBuilt script = AllByRecursion (λ proc. AllByRecursion IsBuiltStatement proc.body) script
-
 -- a line keeps the limits
 abbrev pub FormIsWithin : Form → Type 0
 FormIsWithin (Head name line params) = length params ≤ 8
 FormIsWithin (Body statement) = StatementIsWithin statement
 FormIsWithin End = Unit {0}
-
--- a line is of what is built
-abbrev pub IsBuiltForm : Form → Type 0
-IsBuiltForm (Head name line params) = Unit {0}
-IsBuiltForm (Body statement) = IsBuiltStatement statement
-IsBuiltForm End = Unit {0}
-
--- the line has the form, keeps the limits and is of what is built
-pub record IsBuiltLine (form : Form) (text_line : TextLine) : Type 0 where
-  pub line : IsLine form text_line
-  pub within : FormIsWithin form
-  pub built : IsBuiltForm form

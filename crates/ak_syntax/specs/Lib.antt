@@ -1,5 +1,9 @@
+pub mod Answers
+pub mod Faults
 pub mod Grammar
+pub mod Keywords
+pub mod Lines
 pub mod Names
-pub mod Reading
-pub mod Refusals
+pub mod Rows
 pub mod Table
+pub mod Words

@@ -2,6 +2,7 @@
 use Rattle.std.specs.Prelude.{ℕ, Bool, ◌&&◌, ◌||◌, not, ◌==◌, nat_le, List, [], ◌∷◌, length, slice_index, codes}
 use Rattle.std.specs.List.{list_all, list_any}
 use Rattle.std.specs.Str.{bytes_eq}
+use Rattle.ak_text.specs.Numbers.{is_digit, has_minus}
 use Rattle.ak_script.specs.declared.script.Kind.{Kind}
 use Rattle.ak_script.specs.declared.script.Kind.TheVariants as of_kind
 use Rattle.ak_script.specs.declared.statement.Operator.{Operator}
@@ -55,8 +56,20 @@ operator_word LessEq = codes "<="
 operator_word Equal = codes "="
 operator_word NotEqual = codes "!="
 
+-- the operators
+abbrev pub all_operators : List Operator
+all_operators = Add ∷ Sub ∷ Mul ∷ Div ∷ Rem ∷ Less ∷ LessEq ∷ Equal ∷ NotEqual ∷ []
+
 -- the word of a work
 abbrev pub work_word : WorkWord → List ℕ
 work_word Square = codes "square"
 work_word Mix = codes "mix"
 work_word Fail = codes "fail"
+
+-- the works
+abbrev pub all_works : List WorkWord
+all_works = Square ∷ Mix ∷ Fail ∷ []
+
+-- whether a word is to be a number where one may stand: it begins with a digit or a minus
+abbrev pub is_number_word : List ℕ → Bool
+is_number_word word = is_digit (slice_index word 0) || has_minus word

@@ -1,5 +1,5 @@
 -- The table of statements: the words of each, the names that it binds, and the limits of its lists and numbers.
-use Rattle.std.specs.Prelude.{◌≡◌, ℕ, ◌≤◌, true, List, [], ◌∷◌, ◌++◌, map, length, pos, codes, FitsSigned, if◌then◌else◌}
+use Rattle.std.specs.Prelude.{◌≡◌, ℕ, ◌≤◌, max, true, List, [], ◌∷◌, ◌++◌, map, length, pos, codes, FitsSigned, if◌then◌else◌}
 use Rattle.std.specs.Int.{w64}
 use Rattle.std.specs.List.{flat_map}
 use Rattle.ak_text.specs.Numbers.{Writes}
@@ -21,8 +21,8 @@ pub data Place : Type 0 where
   Named : List ℕ → Place
   -- a number, or the name of a local
   Valued : Atom → Place
-  -- a number that is no value
-  Counted : ℕ → Place
+  -- a number that is no value, from the least one to 1,000,000
+  Counted : ℕ → ℕ → Place
   -- a name, a colon and a kind
   Typed : Param → Place
 
@@ -32,7 +32,7 @@ Stands (Exactly bytes) word = word ≡ bytes
 Stands (Named name) word = (word ≡ name) × (is_name name ≡ true)
 Stands (Valued (Literal number)) word = FitsSigned w64 number × Writes word number
 Stands (Valued (Local name)) word = (word ≡ name) × (is_name name ≡ true)
-Stands (Counted number) word = Writes word (pos number)
+Stands (Counted least number) word = (least ≤ number) × (number ≤ 1000000) × Writes word (pos number)
 Stands (Typed param) word = (word ≡ param.name ++ 58 ∷ kind_word param.kind) × (is_name param.name ≡ true)
 
 -- a deferred of a `choose` and its procedure
@@ -67,10 +67,10 @@ row (NextError r m) = Exactly (codes "nexterr") ∷ Named r ∷ Named m ∷ []
 row (Raise a) = Exactly (codes "raise") ∷ Valued a ∷ []
 row (Send m a) = Exactly (codes "send") ∷ Named m ∷ Valued a ∷ []
 row (Try r proc args catch catch_args) = Exactly (codes "try") ∷ Named r ∷ Named proc ∷ (map Valued args ++ Exactly (codes "else") ∷ Named catch ∷ map Valued catch_args)
-row (Throttle t k stop) = Exactly (codes "throttle") ∷ Named t ∷ Counted k ∷ Exactly (if stop then codes "stop" else codes "go") ∷ []
+row (Throttle t k stop) = Exactly (codes "throttle") ∷ Named t ∷ Counted 1 k ∷ Exactly (if stop then codes "stop" else codes "go") ∷ []
 row (Enqueue r t proc args) = Exactly (codes "enqueue") ∷ Named r ∷ Named t ∷ Named proc ∷ map Valued args
 row (ThrottleDone r t) = Exactly (codes "tdone") ∷ Named r ∷ Named t ∷ []
-row (Pipe p b) = Exactly (codes "pipe") ∷ Named p ∷ Counted b ∷ []
+row (Pipe p b) = Exactly (codes "pipe") ∷ Named p ∷ Counted 0 b ∷ []
 row (Write r p a) = Exactly (codes "write") ∷ Named r ∷ Named p ∷ Valued a ∷ []
 row (Put p a) = Exactly (codes "put") ∷ Named p ∷ Valued a ∷ []
 row (Read r p proc args eof eof_args) = Exactly (codes "rd") ∷ Named r ∷ Named p ∷ Named proc ∷ (map Valued args ++ Exactly (codes "else") ∷ Named eof ∷ map Valued eof_args)
@@ -136,3 +136,26 @@ IsWithin (Enqueue r t proc args) = length args ≤ 8
 IsWithin (Pipe p b) = b ≤ 1000000
 IsWithin (Read r p proc args eof eof_args) = (length args ≤ 8) × (length eof_args ≤ 8)
 IsWithin _ = Unit {0}
+
+-- the lists of deferreds, of which none is empty
+abbrev pub HasDeferreds : Stmt → Type 0
+HasDeferreds (All r deferreds proc args) = 1 ≤ length deferreds
+HasDeferreds (Any r deferreds) = 1 ≤ length deferreds
+HasDeferreds (Choose r choices args) = 1 ≤ length choices
+HasDeferreds _ = Unit {0}
+
+-- the length of the longest list of a statement
+abbrev pub longest_list : Stmt → ℕ
+longest_list (Upon d proc args) = length args
+longest_list (Bind r d proc args) = length args
+longest_list (All r deferreds proc args) = max (length deferreds) (length args)
+longest_list (Any r deferreds) = length deferreds
+longest_list (Choose r choices args) = max (length choices) (length args)
+longest_list (Sched proc args) = length args
+longest_list (Low proc args) = length args
+longest_list (Within m proc args) = length args
+longest_list (OnError m proc args) = length args
+longest_list (Try r proc args catch catch_args) = max (length args) (length catch_args)
+longest_list (Enqueue r t proc args) = length args
+longest_list (Read r p proc args eof eof_args) = max (length args) (length eof_args)
+longest_list _ = 0

@@ -1,114 +1,109 @@
 //! Forms of lines.
 
-ghost use Rattle.std.specs.Prelude.{◌≡◌, ◌≤◌, false, Some, map, drop, length, slice_get, is_some, codes};
-ghost use Rattle.std.specs.List.{AllZip};
-ghost use Rattle.ak_text.specs.Lines.{words_of, has_bad_byte};
-ghost use Rattle.ak_syntax.specs.Grammar.{IsBuiltLine};
-ghost use Rattle.ak_syntax.specs.Refusals.{Finds};
-ghost use Rattle.ak_syntax.specs.Table.{Stands, Typed};
+ghost use Rattle.std.specs.Prelude.{◌≡◌};
+ghost use Rattle.ak_syntax.specs.Words.{Leaves};
+ghost use Rattle.ak_syntax.specs.Lines.{form_from, head_at, end_form_at, if_at, unless_at, conditional_at, plain_at};
 
-use crate::refusal::ParseRefused;
+use crate::cursor::Cursor;
+use crate::limit::bound_count;
 use crate::line_form::Form;
-use crate::word::{atom, name, param};
-use ak_base::list::Items;
-use ak_script::script::{Param, Statement};
-use ak_script::statement::Stmt;
-use ak_text::line::Line;
+use crate::refusal::{Fault, GrammarKind};
+use crate::rows::values;
+use ak_script::script::{Prefix, Statement};
 use std::alloc::Global;
 
-/// The most parameters of a procedure.
-const MAX_PARAMS: usize = 8;
-
-/// The form of a line.
-pub fn form(alloc: Global, line: &Line) -> Result<Form, ParseRefused>
-    ensures { Finds (λ form. IsBuiltLine form line.now) result }
+/// The form of the line of this number that begins with the word, by the words behind it.
+#[tactic(auto, unfolding(crate::specs::Lines::form_from))]
+pub fn form(alloc: Global, number: u32, first: &[u8], words: &mut Cursor) -> Result<Form, Fault>
+    ensures { Leaves (λ f. f) result words.new (form_from number first.now words.old) }
 {
-    if line.is_bad() {
-        return Err(ParseRefused::unbuilt());
-    }
-    let Some(first) = line.word(0) else {
-        return Err(ParseRefused::unbuilt());
-    };
     if first == b"proc".as_slice() {
-        return head(alloc, line);
+        return head(alloc, number, words);
     }
     if first == b"end".as_slice() {
-        return end(line);
+        return end(words);
     }
-    if first == b"print".as_slice() {
-        return print(alloc, line);
+    if first == b"if".as_slice() {
+        return if_statement(alloc, number, words);
     }
-    Err(ParseRefused::unbuilt())
+    if first == b"unless".as_slice() {
+        return unless_statement(alloc, number, words);
+    }
+    plain(alloc, number, first, words)
 }
 
 /// The first line of a procedure: `proc NAME p:kind ..`.
-fn head(alloc: Global, line: &Line) -> Result<Form, ParseRefused>
-    requires good { has_bad_byte line.now.text ≡ false }
-    requires first { slice_get (words_of line.now.text) 0 ≡ Some (codes "proc") }
-    ensures { Finds (λ form. IsBuiltLine form line.now) result }
+#[tactic(auto, unfolding(crate::specs::Lines::head_at))]
+fn head(alloc: Global, number: u32, words: &mut Cursor) -> Result<Form, Fault>
+    ensures { Leaves (λ f. f) result words.new (head_at number words.old) }
 {
-    let Some(word) = line.word(1) else {
-        return Err(ParseRefused::unbuilt());
-    };
-    let name = name(alloc, word)?;
-    let params = params(alloc, line)?;
+    let name = words.name(alloc)?;
+    let params = words.params(alloc)?;
     Ok(Form::Head {
         name,
-        line: line.number(),
+        line: number,
         params,
     })
 }
 
-fn params(alloc: Global, line: &Line) -> Result<Items<Param>, ParseRefused>
-    ensures { Finds (λ params. AllZip Stands (map Typed params) (drop 2 (words_of line.now.text)) × (length params ≤ 8)) result }
-{
-    let mut params = Items::make(alloc);
-    for place in 0..MAX_PARAMS {
-        let Some(word) = line.word(place + 2) else {
-            return Ok(params);
-        };
-        params.push(param(alloc, word)?)?;
-    }
-    if has_word(line, MAX_PARAMS + 2) {
-        return Err(ParseRefused::unbuilt());
-    }
-    Ok(params)
-}
-
-fn has_word(line: &Line, k: usize) -> bool
-    ensures { result ≡ is_some (slice_get (words_of line.now.text) k) }
-{
-    line.word(k).is_some()
-}
-
 /// The last line of a procedure: `end`.
-fn end(line: &Line) -> Result<Form, ParseRefused>
-    requires good { has_bad_byte line.now.text ≡ false }
-    requires first { slice_get (words_of line.now.text) 0 ≡ Some (codes "end") }
-    ensures { Finds (λ form. IsBuiltLine form line.now) result }
+#[tactic(auto, unfolding(crate::specs::Lines::end_form_at))]
+fn end(words: &mut Cursor) -> Result<Form, Fault>
+    ensures { Leaves (λ f. f) result words.new (end_form_at words.old) }
 {
-    if has_word(line, 1) {
-        return Err(ParseRefused::unbuilt());
-    }
+    words.end()?;
     Ok(Form::End)
 }
 
-/// A statement: `print a`.
-fn print(alloc: Global, line: &Line) -> Result<Form, ParseRefused>
-    requires good { has_bad_byte line.now.text ≡ false }
-    requires first { slice_get (words_of line.now.text) 0 ≡ Some (codes "print") }
-    ensures { Finds (λ form. IsBuiltLine form line.now) result }
+/// A statement without a prefix.
+#[tactic(auto, unfolding(crate::specs::Lines::plain_at))]
+fn plain(alloc: Global, number: u32, first: &[u8], words: &mut Cursor) -> Result<Form, Fault>
+    ensures { Leaves (λ f. f) result words.new (plain_at number first.now words.old) }
 {
-    let Some(word) = line.word(1) else {
-        return Err(ParseRefused::unbuilt());
-    };
-    if has_word(line, 2) {
-        return Err(ParseRefused::unbuilt());
-    }
-    let a = atom(alloc, word)?;
+    let stmt = values(alloc, first, words)?;
     Ok(Form::Body(Statement {
-        line: line.number(),
+        line: number,
         prefix: None,
-        stmt: Stmt::Print { a },
+        stmt,
+    }))
+}
+
+/// A statement behind `if`.
+#[tactic(auto, unfolding(crate::specs::Lines::if_at))]
+fn if_statement(alloc: Global, number: u32, words: &mut Cursor) -> Result<Form, Fault>
+    ensures { Leaves (λ f. f) result words.new (if_at number words.old) }
+{
+    let a = words.atom(alloc)?;
+    conditional(alloc, number, Prefix::If(a), words)
+}
+
+/// A statement behind `unless`.
+#[tactic(auto, unfolding(crate::specs::Lines::unless_at))]
+fn unless_statement(alloc: Global, number: u32, words: &mut Cursor) -> Result<Form, Fault>
+    ensures { Leaves (λ f. f) result words.new (unless_at number words.old) }
+{
+    let a = words.atom(alloc)?;
+    conditional(alloc, number, Prefix::Unless(a), words)
+}
+
+/// A statement behind its prefix: it may bind no name.
+#[tactic(auto, unfolding(crate::specs::Lines::conditional_at))]
+fn conditional(
+    alloc: Global,
+    number: u32,
+    prefix: Prefix,
+    words: &mut Cursor,
+) -> Result<Form, Fault>
+    ensures { Leaves (λ f. f) result words.new (conditional_at number prefix words.old) }
+{
+    let first = words.word()?;
+    let stmt = values(alloc, first, words)?;
+    if bound_count(&stmt) != 0 {
+        return Err(Fault::Grammar(GrammarKind::BadLine));
+    }
+    Ok(Form::Body(Statement {
+        line: number,
+        prefix: Some(prefix),
+        stmt,
     }))
 }

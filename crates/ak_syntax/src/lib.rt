@@ -1,9 +1,18 @@
 //! Scripts: their syntax and its reader.
 #![tactic(auto)]
 
+mod cursor;
 mod form;
+mod keyword;
+pub mod laws;
+mod limit;
 pub mod line_form;
+mod list;
 pub mod parse;
 mod reader;
 pub mod refusal;
+mod rows;
+mod shape;
+#[cfg(test)]
+mod tests;
 mod word;

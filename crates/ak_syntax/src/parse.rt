@@ -1,44 +1,61 @@
 //! The reader of scripts.
 
-ghost use Rattle.std.specs.Prelude.{◌≡◌, List, IfOk, not};
+ghost use Rattle.std.specs.Prelude.{◌≡◌, ◌≤◌, ℕ, List, length};
+ghost use Rattle.ak_text.specs.Lines.{text_lines};
 ghost use Rattle.ak_script.specs.declared.script.Proc.{Proc};
-ghost use Rattle.ak_syntax.specs.Grammar.{Reads, IsBuilt, counts};
-ghost use Rattle.ak_syntax.specs.Refusals.{Finds};
+ghost use Rattle.ak_syntax.specs.declared.refusal.GrammarKind.{GrammarKind as Kind};
+ghost use Rattle.ak_syntax.specs.Answers.{IsRight, IsScript, IsFault};
+ghost use Rattle.ak_syntax.specs.Faults.{GrammarFault};
+ghost use Rattle.ak_syntax.specs.Grammar.{Reads};
+ghost use Rattle.ak_syntax.specs.Lines.{Tells, scanned, no_lines, refused_of};
 
-use crate::form::form;
 use crate::reader::Reader;
-use crate::refusal::ParseRefused;
+use crate::refusal::{Fault, GrammarKind, ParseRefused};
 use ak_script::script::Script;
-use ak_text::line::Line;
 use ak_text::text::lines;
 use std::alloc::Global;
 
 /// The most bytes of a script.
 const MAX_BYTES: usize = 1_048_576;
 
-/// The script that the bytes are. It is refused exactly where the bytes are no script of what is built, as line 0 and
-/// kind 10.
+/// The script that the bytes are, or the first line with a fault and the least kind of its faults, where they are none.
+/// A text over its limit of 1,048,576 bytes is line 0, and one that ends inside of a procedure is a bad line behind the
+/// last.
 pub fn parse(alloc: Global, bytes: &[u8]) -> Result<Script, ParseRefused>
-    ensures script { Finds (λ script. Reads bytes.now script × IsBuilt script) result }
-    ensures only { IfOk result (λ script. (other : List Proc) → Reads bytes.now other → IsBuilt other → other ≡ script) }
+    ensures right { IsRight bytes.now result }
+    ensures script { (script : List Proc) → Reads bytes.now script → IsScript result script }
+    ensures fault { (line : ℕ) (kind : Kind) → GrammarFault bytes.now line kind → IsFault result line kind }
 {
     if bytes.len() > MAX_BYTES {
-        return Err(ParseRefused::unbuilt());
+        return Err(ParseRefused::at(0, GrammarKind::TooLong));
     }
-    let mut reader = Reader::new(alloc);
-    for line in lines(bytes) {
-        if is_skipped(&line) {
-            continue;
-        }
-        let form = form(alloc, &line)?;
-        reader.take(alloc, form)?;
-    }
-    reader.finish()
+    parse_lines(alloc, bytes)
 }
 
-/// Whether the line is good and has no words.
-fn is_skipped(line: &Line) -> bool
-    ensures { result ≡ not (counts line.now) }
+fn parse_lines(alloc: Global, bytes: &[u8]) -> Result<Script, ParseRefused>
+    requires { length bytes.now ≤ 1048576 }
+    ensures { Tells result (scanned no_lines 0 (text_lines bytes.now)) }
 {
-    !line.is_bad() && line.word(0).is_none()
+    let mut reader = Reader::new(alloc);
+    let mut last = 0;
+    for line in lines(bytes) {
+        last = line.number();
+        match reader.take(alloc, &line) {
+            Ok(()) => {}
+            Err(fault) => return Err(refused(last, fault)),
+        }
+    }
+    if reader.is_open() {
+        return Err(ParseRefused::at(last + 1, GrammarKind::BadLine));
+    }
+    Ok(reader.into_script())
+}
+
+fn refused(line: u32, fault: Fault) -> ParseRefused
+    ensures { result ≡ refused_of line fault }
+{
+    match fault {
+        Fault::Grammar(kind) => ParseRefused::at(line, kind),
+        Fault::NoMemory => ParseRefused::NoMemory,
+    }
 }

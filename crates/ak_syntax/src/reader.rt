@@ -1,15 +1,21 @@
 //! How far the reader of a script has come.
 
-ghost use Rattle.std.specs.Prelude.{◌≡◌, ◌<◌, ◌≤◌, false, IsTrue, IfSome, IsSomeAnd, [], ◌∷◌, ◌++◌, length, IfOk};
-ghost use Rattle.ak_syntax.specs.Grammar.{forms, FormIsWithin, IsBuiltForm, IsBuiltStatement};
-ghost use Rattle.ak_syntax.specs.Reading.{so_far, IsWhole, IsUnderWay, TakesForm};
-ghost use Rattle.ak_syntax.specs.Refusals.{Finds};
+ghost use Rattle.std.specs.Prelude.{◌≡◌, ◌+◌, length, [], IfOk, is_some};
+ghost use Rattle.std.specs.Option.{option_map};
+ghost use Rattle.ak_syntax.specs.Lines.{Becomes, HasRoom, grown, added, taken, no_lines, begun_head, begun_statement, begun_end, statement_exceeds};
+ghost use Rattle.ak_syntax.specs.Grammar.{locals};
+ghost use Rattle.ak_syntax.specs.Table.{binds};
 
-use crate::refusal::ParseRefused;
+use crate::cursor::{Cursor, Until};
+use crate::form::form;
+use crate::limit::{bound_count, longest_list};
 use crate::line_form::Form;
+use crate::refusal::{Fault, GrammarKind};
 use ak_base::list::{Items, NoMemory};
 use ak_script::script::{Proc, Script, Statement};
+use ak_text::line::Line;
 use std::alloc::Global;
+use std::marker::Model;
 
 /// The most procedures of a script.
 const MAX_PROCS: usize = 4096;
@@ -17,31 +23,63 @@ const MAX_PROCS: usize = 4096;
 /// The most statements of a procedure.
 const MAX_STATEMENTS: usize = 64;
 
-/// The procedures that were read, and the one whose `end` has not come.
+/// The most locals of a procedure: its parameters, and each name that a statement binds.
+const MAX_LOCALS: usize = 64;
+
+/// The most parameters of a procedure, and items of another list of a line.
+const MAX_LISTED: usize = 8;
+
+/// The procedures that were read, and the one whose `end` has not come, with the number of its locals.
 #[derive(Debug, Drop)]
 pub struct Reader {
     procs: Items<Proc>,
     begun: Option<Proc>,
+    local_count: usize,
+}
+
+impl Model for Reader {
+    ghost use Rattle.std.specs.Prelude.{◌≡◌, ◌≤◌, length, IfSome};
+    ghost use Rattle.ak_syntax.specs.Faults.{Front};
+    ghost use Rattle.ak_syntax.specs.Grammar.{locals};
+
+    ghost Value = { Front };
+
+    ghost view = { λ r. record { procs = r.procs; begun = r.begun } };
+
+    ghost invariant = { λ r. IfSome r.begun (λ proc. (r.local_count ≡ length (locals proc)) × (r.local_count ≤ 64)) };
 }
 
 impl Reader {
     /// Before the first line.
     pub fn new(alloc: Global) -> Reader
-        ensures empty { so_far result ≡ [] }
-        ensures under_way { IsUnderWay result }
+        ensures { result ≡ no_lines }
     {
         Reader {
             procs: Items::make(alloc),
             begun: None,
+            local_count: 0,
         }
     }
 
-    /// Takes the next line.
-    pub fn take(&mut self, alloc: Global, form: Form) -> Result<(), ParseRefused>
-        requires under_way { IsUnderWay self.old }
-        requires within { FormIsWithin form }
-        requires built { IsBuiltForm form }
-        ensures { TakesForm self.old form self.new result }
+    /// Takes the next line. Where it is refused, no line may follow.
+    #[tactic(auto, unfolding(crate::specs::Lines::taken))]
+    pub fn take(&mut self, alloc: Global, line: &Line) -> Result<(), Fault>
+        ensures { Becomes result self.new (taken self.old line.now) }
+    {
+        if line.is_bad() {
+            return Err(Fault::Grammar(GrammarKind::BadLine));
+        }
+        let mut words = Cursor::new(line);
+        let Some(first) = words.listed(Until::LineEnd)? else {
+            return Ok(());
+        };
+        let form = form(alloc, line.number(), first, &mut words)?;
+        self.add(alloc, form, words.is_faulty())
+    }
+
+    #[tactic(auto, unfolding(crate::specs::Lines::added))]
+    fn add(&mut self, alloc: Global, form: Form, faulty: bool) -> Result<(), Fault>
+        ensures { Becomes result self.new (added self.old form faulty) }
     {
         match form {
             Form::Head { name, line, params } => self.begin(Proc {
@@ -50,82 +88,100 @@ impl Reader {
                 params,
                 body: Items::make(alloc),
             }),
-            Form::Body(statement) => self.add(statement),
+            Form::Body(statement) => self.add_statement(statement, faulty),
             Form::End => self.end(),
         }
     }
 
-    fn begin(&mut self, proc: Proc) -> Result<(), ParseRefused>
-        requires under_way { IsUnderWay self.old }
-        requires within { length proc.params ≤ 8 }
-        requires bare { proc.body ≡ [] }
-        ensures { TakesForm self.old (Form.Head proc.name proc.line proc.params) self.new result }
+    fn begin(&mut self, proc: Proc) -> Result<(), Fault>
+        requires { proc.body ≡ [] }
+        ensures { Becomes result self.new (begun_head self.old.begun self.old proc) }
     {
         if self.begun.is_some() {
-            drop(proc);
-            return Err(ParseRefused::unbuilt());
+            return Err(Fault::Grammar(GrammarKind::BadLine));
         }
-        if self.procs.len() == MAX_PROCS {
-            drop(proc);
-            return Err(ParseRefused::unbuilt());
+        if proc.params.len() > MAX_LISTED || self.procs.len() >= MAX_PROCS {
+            return Err(Fault::Grammar(GrammarKind::TooMany));
         }
+        self.local_count = proc.params.len();
         self.begun = Some(proc);
         Ok(())
     }
 
-    fn add(&mut self, statement: Statement) -> Result<(), ParseRefused>
-        requires under_way { IsUnderWay self.old }
-        requires built { IsBuiltStatement statement }
-        ensures { TakesForm self.old (Form.Body statement) self.new result }
+    fn add_statement(&mut self, statement: Statement, faulty: bool) -> Result<(), Fault>
+        ensures { Becomes result self.new (begun_statement self.old.begun self.old statement faulty) }
     {
-        if !self.has_room() {
-            drop(statement);
-            return Err(ParseRefused::unbuilt());
-        }
-        let Some(proc) = self.begun.take() else {
-            unreachable!()
-        };
-        self.begun = Some(with_statement(proc, statement)?);
+        let local_count = self.room_for(&statement, faulty)?;
+        self.begun = with_statement(self.begun.take(), statement)?;
+        self.local_count = local_count;
         Ok(())
     }
 
-    /// Whether a procedure has begun, with fewer statements than it may have.
-    fn has_room(&self) -> bool
-        ensures room { IsTrue result → IsSomeAnd self.now.begun (λ proc. length proc.body < 64) }
-        ensures none { result ≡ false → IfSome self.now.begun (λ proc. 64 ≤ length proc.body) }
+    /// The number of locals that the procedure has with the statement, where it may come next.
+    fn room_for(&self, statement: &Statement, faulty: bool) -> Result<usize, Fault>
+        ensures { HasRoom result (begun_statement self.now.begun self.now statement.now faulty) self.now.begun statement.now.stmt }
     {
-        match &self.begun {
-            Some(proc) => proc.body.len() < MAX_STATEMENTS,
-            None => false,
+        let Some(proc) = &self.begun else {
+            return Err(Fault::Grammar(GrammarKind::BadLine));
+        };
+        let local_count = self.local_count + bound_count(&statement.stmt);
+        if exceeds(proc, statement, local_count) {
+            return Err(Fault::Grammar(GrammarKind::TooMany));
         }
+        if faulty {
+            return Err(Fault::Grammar(GrammarKind::BadNumber));
+        }
+        Ok(local_count)
     }
 
-    fn end(&mut self) -> Result<(), ParseRefused>
-        requires under_way { IsUnderWay self.old }
-        ensures { TakesForm self.old Form.End self.new result }
+    fn end(&mut self) -> Result<(), Fault>
+        ensures { Becomes result self.new (begun_end self.old.begun self.old) }
     {
         let Some(proc) = self.begun.take() else {
-            return Err(ParseRefused::unbuilt());
+            return Err(Fault::Grammar(GrammarKind::BadLine));
         };
         self.procs.push(proc)?;
         Ok(())
     }
 
-    /// The script, where each procedure has its `end`.
-    pub fn finish(self) -> Result<Script, ParseRefused>
-        requires { IsUnderWay self }
-        ensures { Finds (λ script. (forms script ≡ so_far self) × IsWhole script) result }
+    /// Whether a procedure has begun whose `end` has not come.
+    pub fn is_open(&self) -> bool
+        ensures { result ≡ is_some self.now.begun }
     {
-        match self.begun {
-            None => Ok(Script::new(self.procs)),
-            Some(_) => Err(ParseRefused::unbuilt()),
-        }
+        self.begun.is_some()
+    }
+
+    /// The script of the procedures that were read.
+    pub fn into_script(self) -> Script
+        ensures { result ≡ self.procs }
+    {
+        Script::new(self.procs)
     }
 }
 
+/// Whether the procedure has too many statements or locals with the statement, or this has a list that is too long.
+fn exceeds(proc: &Proc, statement: &Statement, local_count: usize) -> bool
+    requires { local_count ≡ length (locals proc.now) + length (binds statement.now.stmt) }
+    ensures { result ≡ statement_exceeds proc.now statement.now }
+{
+    if longest_list(&statement.stmt) > MAX_LISTED {
+        return true;
+    }
+    proc.body.len() >= MAX_STATEMENTS || local_count > MAX_LOCALS
+}
+
 /// The procedure with one more statement.
-fn with_statement(mut proc: Proc, statement: Statement) -> Result<Proc, NoMemory>
-    ensures { IfOk result (λ grown. grown ≡ record proc { body = proc.body ++ statement ∷ [] }) }
+fn with_statement(begun: Option<Proc>, statement: Statement) -> Result<Option<Proc>, NoMemory>
+    ensures { IfOk result (λ now. now ≡ option_map (λ proc. grown proc statement) begun) }
+{
+    match begun {
+        Some(proc) => Ok(Some(grown(proc, statement)?)),
+        None => Ok(None),
+    }
+}
+
+fn grown(mut proc: Proc, statement: Statement) -> Result<Proc, NoMemory>
+    ensures { IfOk result (λ now. now ≡ grown proc statement) }
 {
     proc.body.push(statement)?;
     Ok(proc)

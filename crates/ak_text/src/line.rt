@@ -43,7 +43,14 @@ impl<'a> Line<'a> {
     pub fn word(&self, k: usize) -> Option<&'a [u8]>
         ensures { option_copied result ≡ slice_get (words_of self.now.text) k }
     {
-        Words { rest: self.text }.nth(k)
+        self.words().nth(k)
+    }
+
+    /// The words in order. All together they take the time of one walk over the line.
+    pub fn words(&self) -> Words<'a>
+        ensures { result ≡ words_of self.now.text }
+    {
+        Words { rest: self.text }
     }
 }
 
@@ -143,16 +150,25 @@ fn is_of_word(byte: u8) -> bool
 
 /// The words that are left of a line.
 #[derive(Debug, Drop)]
-struct Words<'a> {
+pub struct Words<'a> {
     rest: &'a [u8],
+}
+
+impl<'a> Model for Words<'a> {
+    ghost use Rattle.std.specs.Prelude.{List, ℕ};
+    ghost use Rattle.ak_text.specs.Lines.{words_of};
+
+    ghost Value = { List (List ℕ) };
+
+    ghost view = { λ w. words_of w.rest.now };
 }
 
 impl<'a> Iterator for Words<'a> {
     type Item = &'a [u8];
 
-    ghost next_gives = { YieldsFirstRef (λ s. words_of s.rest.now) };
+    ghost next_gives = { YieldsFirstRef (λ s. s) };
 
-    ghost remaining = { item_count (λ s. words_of s.rest.now) };
+    ghost remaining = { item_count (λ s. s) };
 
     fn next(&mut self) -> Option<&'a [u8]> {
         let text = from_word(self.rest)?;

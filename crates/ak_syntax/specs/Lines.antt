@@ -1,0 +1,153 @@
+-- How the reader takes the lines of a script, one after the other.
+use Rattle.std.specs.Prelude.{◌≡◌, ℕ, ◌+◌, ◌≤◌, Bool, true, false, ◌||◌, ◌==◌, nat_le, nat_lt, Option, Some, None, Result, Ok, Err, List, [], ◌∷◌, ◌++◌, length, codes, if◌then◌else◌}
+use Rattle.std.specs.Result.{is_ok}
+use Rattle.std.specs.Str.{bytes_eq}
+use Rattle.ak_text.specs.Lines.{TextLine, words_of, has_bad_byte}
+use Rattle.ak_script.specs.declared.script.Prefix.{Prefix}
+use Rattle.ak_script.specs.declared.script.Prefix.TheVariants.{If, Unless}
+use Rattle.ak_script.specs.declared.script.Statement.{Statement}
+use Rattle.ak_script.specs.declared.script.Proc.{Proc}
+use Rattle.ak_script.specs.declared.statement.Stmt.{Stmt}
+use Rattle.ak_syntax.specs.declared.cursor.Cursor.{Cursor}
+use Rattle.ak_syntax.specs.declared.cursor.Until.TheVariants.{LineEnd}
+use Rattle.ak_syntax.specs.declared.line_form.Form.{Form}
+use Rattle.ak_syntax.specs.declared.line_form.Form.TheVariants.{Head, Body, End}
+use Rattle.ak_syntax.specs.declared.refusal.Fault.{Fault}
+use Rattle.ak_syntax.specs.declared.refusal.Fault.TheVariants.{Grammar, NoMemory}
+use Rattle.ak_syntax.specs.declared.refusal.GrammarKind.{GrammarKind}
+use Rattle.ak_syntax.specs.declared.refusal.GrammarKind.TheVariants.{BadLine, TooMany, BadNumber}
+use Rattle.ak_syntax.specs.declared.refusal.ParseRefused.{ParseRefused}
+use Rattle.ak_syntax.specs.declared.refusal.ParseRefused.TheVariants as parse
+use Rattle.ak_syntax.specs.Table.{binds, longest_list}
+use Rattle.ak_syntax.specs.Grammar.{locals}
+use Rattle.ak_syntax.specs.Faults.{Front, kind_number}
+use Rattle.ak_syntax.specs.Rows.{values_rows}
+use Rattle.ak_syntax.specs.Words.{Bad, bad, ◌>>=◌, Part, both, mapped, end_at, word_at, name_at, atom_at, params_at, listed_at}
+
+-- ---- one line
+unfoldable pub head_at : ℕ → Part Form
+head_at number = mapped (λ t. Head t.0 number t.1) (both name_at params_at)
+
+unfoldable pub end_form_at : Part Form
+end_form_at = mapped (λ t. End) end_at
+
+-- a statement that binds no name
+unfoldable pub conditional_at : ℕ → Prefix → Part Form
+conditional_at number prefix c = word_at c >>= λ w. values_rows w.0 w.1 >>= λ s. if length (binds s.0) == 0 then Ok (Body (record { line = number; prefix = Some prefix; stmt = s.0 }), s.1) else Err bad
+
+unfoldable pub if_at : ℕ → Part Form
+if_at number c = atom_at c >>= λ a. conditional_at number (If a.0) a.1
+
+unfoldable pub unless_at : ℕ → Part Form
+unless_at number c = atom_at c >>= λ a. conditional_at number (Unless a.0) a.1
+
+unfoldable pub plain_at : ℕ → List ℕ → Part Form
+plain_at number word c = values_rows word c >>= λ s. Ok (Body (record { line = number; prefix = None; stmt = s.0 }), s.1)
+
+-- the form that begins with the word
+unfoldable pub form_from : ℕ → List ℕ → Part Form
+form_from number word = if bytes_eq word (codes "proc") then head_at number else (if bytes_eq word (codes "end") then end_form_at else (if bytes_eq word (codes "if") then if_at number else (if bytes_eq word (codes "unless") then unless_at number else plain_at number word)))
+
+-- ---- a line behind others
+abbrev pub head_added : Front → Proc → Result Front GrammarKind
+head_added front proc = if nat_lt 8 (length proc.params) || nat_le 4096 (length front.procs) then Err TooMany else Ok (record front { begun = Some proc })
+
+abbrev pub statement_exceeds : Proc → Statement → Bool
+statement_exceeds proc statement = nat_lt 8 (longest_list statement.stmt) || (nat_le 64 (length proc.body) || nat_lt 64 (length (locals proc) + length (binds statement.stmt)))
+
+-- the procedure with one more statement
+abbrev pub grown : Proc → Statement → Proc
+grown proc statement = record proc { body = proc.body ++ statement ∷ [] }
+
+abbrev pub statement_added : Front → Proc → Statement → Bool → Result Front GrammarKind
+statement_added front proc statement faulty = if statement_exceeds proc statement then Err TooMany else (if faulty then Err BadNumber else Ok (record front { begun = Some (grown proc statement) }))
+
+abbrev pub end_added : Front → Proc → Result Front GrammarKind
+end_added front proc = Ok (record { procs = front.procs ++ proc ∷ []; begun = None })
+
+-- `proc` comes outside of a procedure, a statement and `end` inside
+abbrev pub begun_head : Option Proc → Front → Proc → Result Front GrammarKind
+begun_head None front proc = head_added front proc
+begun_head (Some begun) front proc = Err BadLine
+
+abbrev pub begun_statement : Option Proc → Front → Statement → Bool → Result Front GrammarKind
+begun_statement None front statement faulty = Err BadLine
+begun_statement (Some proc) front statement faulty = statement_added front proc statement faulty
+
+abbrev pub begun_end : Option Proc → Front → Result Front GrammarKind
+begun_end None front = Err BadLine
+begun_end (Some proc) front = end_added front proc
+
+abbrev pub form_added : Front → Form → Bool → Result Front GrammarKind
+form_added front (Head name line params) faulty = begun_head front.begun front (record { name = name; line = line; params = params; body = [] })
+form_added front (Body statement) faulty = begun_statement front.begun front statement faulty
+form_added front End faulty = begun_end front.begun front
+
+unfoldable pub added : Front → Form → Bool → Result Front GrammarKind
+added front form faulty = form_added front form faulty
+
+-- a part of a line that has no form is a bad line
+abbrev pub lined : {A : Type 0} → Result A Bad → (A → Result Front GrammarKind) → Result Front GrammarKind
+lined (Ok x) rest = rest x
+lined (Err b) rest = Err BadLine
+
+abbrev pub taken_from : Front → ℕ → Option (List ℕ) → Cursor → Result Front GrammarKind
+taken_from front number None c = Ok front
+taken_from front number (Some word) c = lined (form_from number word c) (λ f. added front f.0 f.1.faulty)
+
+abbrev pub taken_good : Front → ℕ → List (List ℕ) → Result Front GrammarKind
+taken_good front number words = lined (listed_at LineEnd (record { words = words; faulty = false })) (λ w. taken_from front number w.0 w.1)
+
+unfoldable pub taken : Front → TextLine → Result Front GrammarKind
+taken front line = if has_bad_byte line.text then Err BadLine else taken_good front line.number (words_of line.text)
+
+-- a refusal for that reason, or want of memory
+abbrev pub Refuses : {Y : Type 0} → Fault → Result Y GrammarKind → Type 0
+Refuses (Grammar kind) found = found ≡ Err kind
+Refuses NoMemory found = Unit {0}
+
+-- what was answered is what the front has become
+abbrev pub Becomes : Result (Unit {0}) Fault → Front → Result Front GrammarKind → Type 0
+Becomes (Ok done) now found = found ≡ Ok now
+Becomes (Err e) now found = Refuses e found
+
+-- the number of locals with the statement, and that it may come next
+abbrev pub IsRoom : ℕ → Result Front GrammarKind → Option Proc → Stmt → Type 0
+IsRoom count next None stmt = ⊥
+IsRoom count next (Some proc) stmt = (count ≡ length (locals proc) + length (binds stmt)) × (count ≤ 64) × (is_ok next ≡ true)
+
+abbrev pub HasRoom : Result ℕ Fault → Result Front GrammarKind → Option Proc → Stmt → Type 0
+HasRoom (Ok count) next begun stmt = IsRoom count next begun stmt
+HasRoom (Err e) next begun stmt = Refuses e next
+
+-- ---- all lines
+-- the place and the kind of a fault
+abbrev pub Placed : Type 0
+Placed = ℕ × GrammarKind
+
+abbrev pub then_lines : ℕ → Result Front GrammarKind → (Front → Result (List Proc) Placed) → Result (List Proc) Placed
+then_lines number (Ok front) rest = rest front
+then_lines number (Err kind) rest = Err (number, kind)
+
+abbrev pub closed_by : ℕ → List Proc → Option Proc → Result (List Proc) Placed
+closed_by last procs None = Ok procs
+closed_by last procs (Some proc) = Err (last + 1, BadLine)
+
+-- the script, where the number of the last line was the given one
+unfoldable pub scanned : Front → ℕ → List TextLine → Result (List Proc) Placed
+scanned front last [] = closed_by last front.procs front.begun
+scanned front last (line ∷ lines) = then_lines line.number (taken front line) (λ next. scanned next line.number lines)
+
+abbrev pub no_lines : Front
+no_lines = record { procs = []; begun = None }
+
+-- the refusal of a line
+abbrev pub refused_of : ℕ → Fault → ParseRefused
+refused_of line (Grammar kind) = parse.At line (kind_number kind)
+refused_of line NoMemory = parse.NoMemory
+
+-- the answer is what was scanned, or want of memory
+abbrev pub Tells : Result (List Proc) ParseRefused → Result (List Proc) Placed → Type 0
+Tells (Ok script) found = found ≡ Ok script
+Tells (Err (parse.At line kind)) found = (k : GrammarKind) × (kind ≡ kind_number k) × (found ≡ Err (line, k))
+Tells (Err parse.NoMemory) found = Unit {0}
