@@ -12,6 +12,8 @@ mod places;
 mod procs;
 pub mod refusal;
 mod statements;
+#[cfg(test)]
+mod tests;
 mod uses;
 pub mod validate;
 pub mod verdict;
