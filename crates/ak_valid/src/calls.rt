@@ -14,7 +14,7 @@ use crate::refusal::FaultKind;
 use crate::uses;
 use ak_base::list::Word;
 use ak_script::script::{Kind, Param};
-use ak_script::statement::{Atom, Choice, Stmt};
+use ak_script::statement::{Args, Atom, Choice, Stmt};
 
 /// An argument that is no known local.
 fn unknown(locals: &Locals, a: &Atom) -> Option<FaultKind>
@@ -152,15 +152,15 @@ fn trying(
     procs: &Procs,
     locals: &Locals,
     proc: &Word,
-    args: &[Atom],
+    args: &Args,
     catch: &Word,
-    catch_args: &[Atom],
+    catch_args: &Args,
 ) -> Option<FaultKind>
     ensures { result ≡ least (flat_map (callee_faults procs.now locals.now) (record { name = proc.now; front = 0; args = args.now } ∷ record { name = catch.now; front = 1; args = catch_args.now } ∷ [])) }
 {
     lesser(
-        call(procs, locals, proc, 0, args),
-        one(procs, locals, catch, 1, catch_args),
+        call(procs, locals, proc, 0, args.as_slice()),
+        one(procs, locals, catch, 1, catch_args.as_slice()),
     )
 }
 
@@ -170,15 +170,15 @@ fn reading(
     procs: &Procs,
     locals: &Locals,
     proc: &Word,
-    args: &[Atom],
+    args: &Args,
     eof: &Word,
-    eof_args: &[Atom],
+    eof_args: &Args,
 ) -> Option<FaultKind>
     ensures { result ≡ least (flat_map (callee_faults procs.now locals.now) (record { name = proc.now; front = 1; args = args.now } ∷ record { name = eof.now; front = 0; args = eof_args.now } ∷ [])) }
 {
     lesser(
-        call(procs, locals, proc, 1, args),
-        one(procs, locals, eof, 0, eof_args),
+        call(procs, locals, proc, 1, args.as_slice()),
+        one(procs, locals, eof, 0, eof_args.as_slice()),
     )
 }
 
@@ -211,28 +211,14 @@ pub fn statement(procs: &Procs, locals: &Locals, stmt: &Stmt) -> Option<FaultKin
             catch,
             catch_args,
             ..
-        } => trying(
-            procs,
-            locals,
-            proc,
-            args.as_slice(),
-            catch,
-            catch_args.as_slice(),
-        ),
+        } => trying(procs, locals, proc, args, catch, catch_args),
         Stmt::Read {
             proc,
             args,
             eof,
             eof_args,
             ..
-        } => reading(
-            procs,
-            locals,
-            proc,
-            args.as_slice(),
-            eof,
-            eof_args.as_slice(),
-        ),
+        } => reading(procs, locals, proc, args, eof, eof_args),
         _ => None,
     }
 }
