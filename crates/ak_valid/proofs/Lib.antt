@@ -1,4 +1,10 @@
-pub mod Giving
-pub mod Locals
+pub mod Binding
+pub mod Exact
+pub mod Firsts
+pub mod LeastKinds
+pub mod Lines
+pub mod Mapping
 pub mod Naming
 pub mod Sound
+pub mod Tables
+pub mod Whole

@@ -1,11 +1,9 @@
 -- Names in a list, and behind references.
-use Rattle.std.proofs.Common.{◌≡◌, ◌≢◌, ℕ, zero, suc, take, drop, get_or, ◌+◌, ◌<◌, ◌≤◌, Bool, true, false, not, ◌||◌, cond, List, [], ◌∷◌, ◌++◌, length, map, Option, Some, None, refl, sym, ap, ◌∙◌, subst, arith, Bor, MatchOption, ltb}
-use Rattle.std.proofs.lemmas.Grind.{common_steps}
+use Rattle.std.proofs.Common.{◌≡◌, ◌≢◌, ℕ, zero, suc, take, get_or, ◌+◌, ◌<◌, Bool, true, false, not, ◌||◌, cond, List, [], ◌∷◌, ◌++◌, length, map, refl, sym, ap, ◌∙◌, arith, Bor}
 use Rattle.std.proofs.lemmas.List.{map-append}
-use Rattle.std.specs.List.{AllByRecursion, list_any, find, position, position_or_len, slice_get}
+use Rattle.std.specs.List.{AllByRecursion, list_any, position_or_len}
 use Rattle.std.specs.Str.{bytes_eq}
 use Rattle.std.proofs.lemmas.Slice.Eq.{bytes_eq-Decides}
-use Rattle.ak_valid.specs.Numbered.{at}
 use Rattle.ak_valid.specs.Valid.{AreDistinct}
 
 pub any_mapped : {A B : Type 0} (p : B → Bool) (f : A → B) (xs : List A) → list_any p (map f xs) ≡ list_any (λ x. p (f x)) xs
@@ -27,31 +25,6 @@ added keys new k old fresh is was then =
     of : (b : Bool) → fresh ≡ not b → new ≡ cond b keys (keys ++ k ∷ []) → map (λ (x : Bor (List ℕ)). x.now) new ≡ cond fresh (old ++ k.now ∷ []) old
     of true f n = rw (f, n) is
     of false f n = rw (f, n, map-append) (ap (λ (names : List (List ℕ)). names ++ k.now ∷ []) is)
-
--- something passes exactly where the first place that passes is one of the list
-pub any_is_place : {A : Type 0} (p : A → Bool) (xs : List A) → list_any p xs ≡ ltb (position_or_len p xs) (length xs)
-any_is_place p [] = refl
-any_is_place p (x ∷ xs) = of (p x) (any_is_place p xs)
-  where
-    of : (b : Bool) → list_any p xs ≡ ltb (position_or_len p xs) (length xs) → (b || list_any p xs) ≡ ltb (cond (not b) (1 + position_or_len p xs) 0) (suc (length xs))
-    of true ih = grind arith
-    of false ih = ih ∙ grind arith
-
--- the place of a name behind references
-pub placed : (keys : List (Bor (List ℕ))) (name : List ℕ) (names : List (List ℕ)) (r : Option ℕ) → map (λ (x : Bor (List ℕ)). x.now) keys ≡ names
-    → r ≡ position (λ (x : Bor (List ℕ)). bytes_eq name x.now) keys
-    → MatchOption r (list_any (bytes_eq name) names ≡ false) (λ place. (list_any (bytes_eq name) names ≡ true) × (place ≡ at names name))
-placed keys name names r is e =
-    let any : list_any (bytes_eq name) names ≡ ltb (position_or_len (λ (x : Bor (List ℕ)). bytes_eq name x.now) keys) (length keys) =
-    rw (sym is) (any_mapped (bytes_eq name) (λ (x : Bor (List ℕ)). x.now) keys) ∙ any_is_place (λ (x : Bor (List ℕ)). bytes_eq name x.now) keys in
-    let place : at names name ≡ position_or_len (λ (x : Bor (List ℕ)). bytes_eq name x.now) keys = rw (sym is) (place_mapped (bytes_eq name) (λ (x : Bor (List ℕ)). x.now) keys) in
-    of (ltb (position_or_len (λ (x : Bor (List ℕ)). bytes_eq name x.now) keys) (length keys)) any e place
-  where
-    of : (b : Bool) → list_any (bytes_eq name) names ≡ b → r ≡ cond b (Some (position_or_len (λ (x : Bor (List ℕ)). bytes_eq name x.now) keys)) None
-        → at names name ≡ position_or_len (λ (x : Bor (List ℕ)). bytes_eq name x.now) keys
-        → MatchOption r (list_any (bytes_eq name) names ≡ false) (λ place. (list_any (bytes_eq name) names ≡ true) × (place ≡ at names name))
-    of true any is place = rw is (any, sym place)
-    of false any is place = rw is any
 
 pub all_push : {A : Type 0} (P : A → Type 0) (xs : List A) (x : A) → AllByRecursion P xs → P x → AllByRecursion P (xs ++ x ∷ [])
 all_push P [] x h p = (p, tt)
@@ -88,32 +61,3 @@ pub take_next : {A : Type 0} (xs : List A) (i : ℕ) (x : A) → i < length xs �
 take_next [] i x below is = absurd (omega arith)
 take_next (y ∷ xs) zero x below is = ap (λ z. z ∷ []) (sym is)
 take_next (y ∷ xs) (suc i) x below is = let next : suc i + 1 ≡ suc (i + 1) = omega arith in rw next (ap (λ zs. y ∷ zs) (take_next xs i x (omega arith) is))
-
-pub take_round : {A : Type 0} (xs : List A) (i : ℕ) (x : A) → i < length xs → x ≡ get_or xs i x → xs ≡ take i xs ++ x ∷ drop (suc i) xs
-take_round [] i x below is = absurd (omega arith)
-take_round (y ∷ xs) zero x below is = ap (λ z. z ∷ xs) (sym is)
-take_round (y ∷ xs) (suc i) x below is = ap (λ zs. y ∷ zs) (take_round xs i x (omega arith) is)
-
--- a name was put last, or stood before
-pub names_step : {A : Type 0} (f : A → List ℕ) (xs : List A) (i : ℕ) (x : A) (names new : List (List ℕ)) (fresh : Bool) → i < length xs → x ≡ get_or xs i x
-    → names ≡ map f (take i xs) → AreDistinct (map f (take i xs)) → fresh ≡ not (list_any (bytes_eq (f x)) names) → new ≡ cond fresh (names ++ f x ∷ []) names → fresh ≡ true
-    → (new ≡ map f (take (i + 1) xs)) × AreDistinct (map f (take (i + 1) xs))
-names_step f xs i x names new fresh below is so_far distinct was then true_ =
-    let absent : list_any (bytes_eq (f x)) (map f (take i xs)) ≡ false = rw (sym so_far) (not_false _ (sym true_ ∙ was)) in
-    let grown : map f (take (i + 1) xs) ≡ map f (take i xs) ++ f x ∷ [] = rw (take_next xs i x below is) (map-append f (take i xs) (x ∷ [])) in
-    (then ∙ rw true_ (ap (λ (ns : List (List ℕ)). ns ++ f x ∷ []) so_far) ∙ sym grown, rw grown (distinct_push (map f (take i xs)) (f x) distinct absent))
-  where
-    not_false : (b : Bool) → true ≡ not b → b ≡ false
-    not_false true h = cc
-    not_false false h = refl
-
-pub names_twice : {A : Type 0} (f : A → List ℕ) (xs : List A) (i : ℕ) (x : A) (names : List (List ℕ)) (fresh : Bool) → i < length xs → x ≡ get_or xs i x
-    → names ≡ map f (take i xs) → fresh ≡ not (list_any (bytes_eq (f x)) names) → fresh ≡ false → AreDistinct (map f xs) → ⊥
-names_twice f xs i x names fresh below is so_far was false_ distinct =
-    let twice : list_any (bytes_eq (f x)) (map f (take i xs)) ≡ true = rw (sym so_far) (not_true _ (sym false_ ∙ was)) in
-    let round : map f xs ≡ map f (take i xs) ++ f x ∷ map f (drop (suc i) xs) = ap (map f) (take_round xs i x below is) ∙ map-append f (take i xs) (x ∷ drop (suc i) xs) in
-    distinct_refused (map f (take i xs)) (map f (drop (suc i) xs)) (f x) twice (subst AreDistinct round distinct)
-  where
-    not_true : (b : Bool) → false ≡ not b → b ≡ true
-    not_true true h = refl
-    not_true false h = cc

@@ -1,3 +1,5 @@
+pub mod Faults
+pub mod Firsts
 pub mod Numbered
 pub mod Refusals
 pub mod Uses

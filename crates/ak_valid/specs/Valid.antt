@@ -1,9 +1,8 @@
 -- Validity of a script: names are looked up in the lines before.
-use Rattle.std.specs.Prelude.{◌≡◌, ◌≢◌, ◌⊎◌, ℕ, ◌≤◌, Option, Some, None, List, [], ◌∷◌, ◌++◌, map, length, take, drop, codes, MatchOption}
+use Rattle.std.specs.Prelude.{◌≡◌, ◌≢◌, ℕ, ◌≤◌, Option, Some, None, List, [], ◌∷◌, ◌++◌, map, length, take, drop, codes, MatchOption}
 use Rattle.std.specs.List.{AllByRecursion, Any, AllZip, find}
 use Rattle.std.specs.Str.{bytes_eq}
 use Rattle.ak_script.specs.Kinds.{Serves}
-use Rattle.ak_script.specs.declared.script.Kind.{Kind}
 use Rattle.ak_script.specs.declared.script.Kind.TheVariants as of_kind
 use Rattle.ak_script.specs.declared.script.Param.{Param}
 use Rattle.ak_script.specs.declared.script.Prefix.{Prefix}

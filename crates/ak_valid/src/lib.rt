@@ -1,8 +1,19 @@
 //! Valid programs: names are numbers, and every use fits.
 #![tactic(auto)]
 
+mod binds;
+mod calls;
+mod check;
+mod least;
+mod locals;
 mod names;
+mod number;
+mod places;
+mod procs;
 pub mod refusal;
+mod statements;
 #[cfg(test)]
 mod tests;
+mod uses;
 pub mod validate;
+pub mod verdict;

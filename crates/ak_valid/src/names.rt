@@ -1,16 +1,15 @@
-//! Names by their places.
+//! Names that have been seen.
 
-ghost use Rattle.std.specs.Prelude.{◌≡◌, ◌<◌, [], ◌∷◌, ◌++◌, true, false, not, length, MatchOption, IfOk, if◌then◌else◌};
+ghost use Rattle.std.specs.Prelude.{◌≡◌, [], ◌∷◌, ◌++◌, not, IfOk, if◌then◌else◌};
 ghost use Rattle.std.specs.List.{list_any};
 ghost use Rattle.std.specs.Str.{bytes_eq};
-ghost use Rattle.ak_valid.specs.Numbered.{at};
 
 use ak_base::list::NoMemory;
 use indexmap::IndexSet;
 use std::alloc::Global;
 use std::marker::Model;
 
-/// Names without repeats, each with its place.
+/// Names without repeats, in the order in which they were seen.
 #[derive(Drop)]
 pub struct Names<'a> {
     names: IndexSet<&'a [u8]>,
@@ -25,13 +24,13 @@ impl<'a> Model for Names<'a> {
 }
 
 impl<'a> Names<'a> {
-    /// No names.
-    pub fn make(alloc: Global) -> Names<'a>
-        ensures { result ≡ [] }
+    /// No names, with room for so many.
+    pub fn with_capacity(alloc: Global, count: usize) -> Result<Names<'a>, NoMemory>
+        ensures { IfOk result (λ names. names ≡ []) }
     {
-        Names {
-            names: IndexSet::new(alloc),
-        }
+        Ok(Names {
+            names: IndexSet::with_capacity(alloc, count)?,
+        })
     }
 
     /// Puts the name last, where it is new.
@@ -39,12 +38,5 @@ impl<'a> Names<'a> {
         ensures { IfOk result (λ new. (new ≡ not (list_any (bytes_eq name.now) self.old)) × (self.new ≡ (if new then self.old ++ name.now ∷ [] else self.old))) }
     {
         Ok(self.names.insert(name)?)
-    }
-
-    /// The place of the name: `None` exactly where it is not among them.
-    pub fn place(&self, name: &[u8]) -> Option<usize>
-        ensures { MatchOption result (list_any (bytes_eq name.now) self.now ≡ false) (λ place. (list_any (bytes_eq name.now) self.now ≡ true) × (place ≡ at self.now name.now)) }
-    {
-        self.names.get_index_of(&name)
     }
 }

@@ -1,200 +1,75 @@
 //! The test of a script.
 
-ghost use Rattle.std.specs.Prelude.{◌≡◌, ◌<◌, ◌↔◌, ℕ, List, [], true, map, length, slice_get, option_map, IfOk, IsTrue};
-ghost use Rattle.std.specs.List.{AllByRecursion, list_any};
-ghost use Rattle.std.specs.Str.{bytes_eq};
-ghost use Rattle.ak_script.specs.declared.script.Proc.{Proc};
-ghost use Rattle.ak_syntax.specs.Grammar.{IsBuilt, IsBuiltStatement};
-ghost use Rattle.ak_valid.specs.Numbered.{numbered, main_of, proc_names, param_names, numbered_proc, numbered_param, numbered_statement, numbered_atom};
-ghost use Rattle.ak_valid.specs.Refusals.{Gives};
-ghost use Rattle.ak_valid.specs.Uses.{number};
-ghost use Rattle.ak_valid.specs.Valid.{Valid, AreDistinct, HasMain, ProcIsValid, LinesAreValid, StatementIsValid, IsKnown};
+ghost use Rattle.std.specs.Prelude.{◌≡◌, [], ◌∷◌, None, map, IfOk, IfErr};
+ghost use Rattle.ak_valid.specs.Numbered.{numbered as numbered_script, main_of, numbered_proc, proc_names};
+ghost use Rattle.ak_valid.specs.Faults.{line_zero, procs_lines, script_lines, first_fault};
+ghost use Rattle.ak_valid.specs.Firsts.{AreFirsts};
+ghost use Rattle.ak_valid.specs.Refusals.{Refuses, IsRefusal};
+ghost use Rattle.ak_valid.specs.Valid.{Valid};
 
 use crate::names::Names;
-use crate::refusal::ValidRefused;
+use crate::procs::Procs;
+use crate::refusal::{FaultKind, ValidRefused};
+use crate::{check, number};
 use ak_base::list::{Items, NoMemory};
-use ak_program::program::{NumParam, NumProc, NumStatement, Program};
-use ak_program::statement::{NumAtom, NumStmt};
-use ak_script::script::{Kind, Param, Proc, Script, Statement};
-use ak_script::statement::{Atom, Stmt};
+use ak_program::program::{NumProc, Program};
+use ak_script::script::{Proc, Script};
 use std::alloc::Global;
 
-/// The program of a script. It is refused exactly where the script is not valid, as line 0 and kind 10.
+/// The program of a script: each procedure by its place in the script, each local by its place among the parameters
+/// and the names that the statements bind, from 0. A script is refused exactly where it has a fault, by the first
+/// line that has one, in the order of the lines, and the least kind of that line's faults; line 0 comes before all.
+/// The script is spent. Own.
 pub fn validate(alloc: Global, script: Script) -> Result<Program, ValidRefused>
-    requires built { IsBuilt script }
-    ensures { Gives (Valid script) (record { procs = numbered script; main = main_of script }) result }
+    ensures ok { IfOk result (λ program. Valid script × (program ≡ record { procs = numbered_script script; main = main_of script })) }
+    ensures err { IfErr result (λ refusal. IsRefusal script refusal) }
 {
     let procs = script.into_procs();
-    let names = names_of_procs(alloc, procs.as_slice())?;
-    let main = place_of_main(&names, procs.as_slice())?;
-    let numbered = number_procs(alloc, &names, procs.as_slice())?;
+    let named = by_name(alloc, procs.as_slice())?;
+    let main = place_of_main(&named)?;
+    let numbered = number_procs(alloc, &named, procs.as_slice())?;
     Ok(Program::new(numbered, main))
 }
 
-/// The names of the procedures, where each stands once.
-fn names_of_procs<'a>(alloc: Global, procs: &'a [Proc]) -> Result<Names<'a>, ValidRefused>
-    ensures { Gives (AreDistinct (proc_names procs.now)) (proc_names procs.now) result }
+/// The procedures by their names, of each name the first.
+fn by_name<'a>(alloc: Global, procs: &'a [Proc]) -> Result<Procs<'a>, NoMemory>
+    ensures { IfOk result (λ named. AreFirsts named procs.now) }
 {
-    let mut names = Names::make(alloc);
+    let mut named = Procs::with_capacity(alloc, procs.len())?;
     for proc in procs {
-        if !names.add(proc.name.as_slice())? {
-            return Err(ValidRefused::invalid());
-        }
+        named.add(proc)?;
     }
-    Ok(names)
+    Ok(named)
 }
 
-/// The names of the parameters, where each stands once.
-fn names_of_params<'a>(alloc: Global, params: &'a [Param]) -> Result<Names<'a>, ValidRefused>
-    ensures { Gives (AreDistinct (param_names params.now)) (param_names params.now) result }
+/// The place of `main`.
+fn place_of_main(named: &Procs) -> Result<usize, ValidRefused>
+    ensures ok { IfOk result (λ main. (first_fault (line_zero named.now ∷ []) ≡ None) × (main ≡ main_of named.now)) }
+    ensures err { IfErr result (λ refusal. Refuses (first_fault (line_zero named.now ∷ [])) refusal) }
 {
-    let mut names = Names::make(alloc);
-    for param in params {
-        if !names.add(param.name.as_slice())? {
-            return Err(ValidRefused::invalid());
-        }
+    match named.named(b"main".as_slice()) {
+        None => Err(ValidRefused::At {
+            line: 0,
+            kind: FaultKind::NoMain.number(),
+        }),
+        Some(_) => Ok(named.place(b"main".as_slice())),
     }
-    Ok(names)
 }
 
-/// The place of `main`, where it has no parameters.
-fn place_of_main(names: &Names, procs: &[Proc]) -> Result<usize, ValidRefused>
-    requires { names.now ≡ proc_names procs.now }
-    ensures { Gives (HasMain procs.now) (main_of procs.now) result }
-{
-    let Some(main) = names.place(b"main".as_slice()) else {
-        return Err(ValidRefused::invalid());
-    };
-    if !takes_nothing(procs, main) {
-        return Err(ValidRefused::invalid());
-    }
-    Ok(main)
-}
-
+/// The procedures by their places, up to the first line with a fault.
 fn number_procs(
     alloc: Global,
-    names: &Names,
+    named: &Procs,
     procs: &[Proc],
 ) -> Result<Items<NumProc>, ValidRefused>
-    requires built { IsBuilt procs.now }
-    requires named { names.now ≡ proc_names procs.now }
-    ensures { (all : List Proc) → Gives (AllByRecursion (ProcIsValid all) procs.now) (map (numbered_proc names.now) procs.now) result }
+    ensures ok { IfOk result (λ numbered. (first_fault (procs_lines named.now [] procs.now) ≡ None) × (numbered ≡ map (numbered_proc (proc_names named.now)) procs.now)) }
+    ensures err { IfErr result (λ refusal. Refuses (first_fault (procs_lines named.now [] procs.now)) refusal) }
 {
-    let mut numbered = Items::make(alloc);
+    let mut seen = Names::with_capacity(alloc, procs.len())?;
+    let mut numbered = Items::from_vec(Vec::with_capacity(alloc, procs.len())?);
     for proc in procs {
-        numbered.push(number_proc(alloc, names, proc)?)?;
+        let locals = check::proc(alloc, named, &mut seen, proc)?;
+        numbered.push(number::proc(alloc, named, &locals, proc)?)?;
     }
     Ok(numbered)
-}
-
-fn number_proc(alloc: Global, names: &Names, proc: &Proc) -> Result<NumProc, ValidRefused>
-    requires built { AllByRecursion IsBuiltStatement proc.now.body }
-    requires named { list_any (bytes_eq proc.now.name) names.now ≡ true }
-    ensures { (all : List Proc) → Gives (ProcIsValid all proc.now) (numbered_proc names.now proc.now) result }
-{
-    let Some(name) = names.place(proc.name.as_slice()) else {
-        unreachable!()
-    };
-    let locals = names_of_params(alloc, proc.params.as_slice())?;
-    let params = number_params(alloc, &locals, proc.params.as_slice())?;
-    let body = number_lines(alloc, &locals, proc.params.as_slice(), proc.body.as_slice())?;
-    Ok(NumProc {
-        name,
-        line: proc.line,
-        params,
-        body,
-    })
-}
-
-fn number_params(
-    alloc: Global,
-    locals: &Names,
-    params: &[Param],
-) -> Result<Items<NumParam>, NoMemory>
-    requires { locals.now ≡ param_names params.now }
-    ensures { IfOk result (λ numbered. numbered ≡ map (numbered_param locals.now) params.now) }
-{
-    let mut numbered = Items::make(alloc);
-    for param in params {
-        let Some(name) = locals.place(param.name.as_slice()) else {
-            unreachable!()
-        };
-        numbered.push(NumParam {
-            name,
-            kind: param.kind,
-        })?;
-    }
-    Ok(numbered)
-}
-
-fn number_lines(
-    alloc: Global,
-    locals: &Names,
-    params: &[Param],
-    body: &[Statement],
-) -> Result<Items<NumStatement>, ValidRefused>
-    requires built { AllByRecursion IsBuiltStatement body.now }
-    requires named { locals.now ≡ param_names params.now }
-    ensures { (all : List Proc) (names : List (List ℕ)) → Gives (LinesAreValid all params.now body.now) (map (numbered_statement names locals.now) body.now) result }
-{
-    let mut numbered = Items::make(alloc);
-    for statement in body {
-        numbered.push(number_statement(locals, params, statement)?)?;
-    }
-    Ok(numbered)
-}
-
-fn number_statement(
-    locals: &Names,
-    params: &[Param],
-    statement: &Statement,
-) -> Result<NumStatement, ValidRefused>
-    requires built { IsBuiltStatement statement.now }
-    requires named { locals.now ≡ param_names params.now }
-    ensures { (all : List Proc) (names : List (List ℕ)) → Gives (StatementIsValid all params.now statement.now) (numbered_statement names locals.now statement.now) result }
-{
-    let Stmt::Print { a } = &statement.stmt else {
-        unreachable!()
-    };
-    Ok(NumStatement {
-        line: statement.line,
-        prefix: None,
-        stmt: NumStmt::Print {
-            a: number_atom(locals, params, a)?,
-        },
-    })
-}
-
-fn number_atom(locals: &Names, params: &[Param], a: &Atom) -> Result<NumAtom, ValidRefused>
-    requires named { locals.now ≡ param_names params.now }
-    ensures { Gives (AllByRecursion (IsKnown params.now) (number a.now)) (numbered_atom locals.now a.now) result }
-{
-    match a {
-        Atom::Literal(n) => Ok(NumAtom::Literal(*n)),
-        Atom::Local(name) => {
-            let Some(place) = locals.place(name.as_slice()) else {
-                return Err(ValidRefused::invalid());
-            };
-            if !is_number(params, place) {
-                return Err(ValidRefused::invalid());
-            }
-            Ok(NumAtom::Local(place))
-        }
-    }
-}
-
-/// Whether the local of the place is a number.
-fn is_number(params: &[Param], place: usize) -> bool
-    requires { place < length params.now }
-    ensures { IsTrue result ↔ (option_map (λ param. param.kind) (slice_get params.now place) ≡ Some Kind.Num) }
-{
-    params[place].kind == Kind::Num
-}
-
-/// Whether the procedure of the place has no parameters.
-fn takes_nothing(procs: &[Proc], place: usize) -> bool
-    requires { place < length procs.now }
-    ensures { IsTrue result ↔ (option_map (λ proc. proc.params) (slice_get procs.now place) ≡ Some []) }
-{
-    procs[place].params.len() == 0
 }
