@@ -7,3 +7,4 @@ mod Lists
 mod Way
 mod Picks
 mod Whole
+mod Unbuilt

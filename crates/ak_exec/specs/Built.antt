@@ -1,6 +1,6 @@
 -- The statements that are built.
-use Rattle.std.specs.Prelude.{◌≡◌, List, [], Option, Some, None}
-use Rattle.std.specs.List.{AllByRecursion}
+use Rattle.std.specs.Prelude.{◌≡◌, ℕ, List, [], ◌∷◌, ◌++◌, Option, Some, None}
+use Rattle.std.specs.List.{AllByRecursion, flat_map}
 use Rattle.ak_program.specs.declared.program.NumPrefix.{NumPrefix}
 use Rattle.ak_program.specs.declared.program.NumStatement.{NumStatement}
 use Rattle.ak_program.specs.declared.program.NumProc.{NumProc}
@@ -38,3 +38,17 @@ ProcIsBuilt proc = AllByRecursion IsBuilt proc.body
 -- each statement of the program is built
 abbrev pub AreBuilt : List NumProc → Type 0
 AreBuilt procs = AllByRecursion ProcIsBuilt procs
+
+-- all statements, in the order of the script
+abbrev pub statements : List NumProc → List NumStatement
+statements procs = flat_map (λ proc. proc.body) procs
+
+-- the first statement that isn't built stands in the line
+pub record FirstUnbuilt (all : List NumStatement) (line : ℕ) : Type 0 where
+  pub before : List NumStatement
+  pub statement : NumStatement
+  pub after : List NumStatement
+  pub all_are : all ≡ before ++ statement ∷ after
+  pub built : AllByRecursion IsBuilt before
+  pub unbuilt : IsBuilt statement → ⊥
+  pub at : line ≡ statement.line

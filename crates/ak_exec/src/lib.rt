@@ -2,6 +2,7 @@
 #![tactic(auto)]
 
 mod arithmetic;
+pub mod built;
 mod cells;
 mod job;
 mod local;

@@ -74,6 +74,13 @@ impl Program {
         self.procs.get(k)
     }
 
+    /// Lends all procedures, in the order of the script.
+    pub fn procs(&self) -> &[NumProc]
+        ensures { result.now ≡ self.now.procs }
+    {
+        self.procs.as_slice()
+    }
+
     /// The number of `main`.
     pub fn main(&self) -> usize
         ensures value { result ≡ self.now.main }

@@ -11,10 +11,7 @@ use Rattle.ak_valid.specs.Numbered.{numbered, main_of}
 use Rattle.ak_machine.specs.declared.config.Config.{Config}
 use Rattle.ak_machine.specs.Run.{run_of}
 use Rattle.ak_cycle.specs.Runs.{HasEndedWith}
-use Rattle.ak_top.specs.Headline.{IsScript, RunsTo, TellsNoScript}
-use Rattle.ak_top.specs.Reading.{Had}
-use Rattle.ak_top.specs.Stops.{HasRun}
-use Rattle.std.specs.Prelude.{Option}
+use Rattle.ak_top.specs.Headline.{IsScript, RunsTo}
 use Rattle.ak_top.specs.Idle.{AreIdle}
 use Rattle.ak_top.proofs.Idling.{once_idle}
 
@@ -34,9 +31,3 @@ runs_to config bytes script program trace history kept threads waits is_script p
       asks_are = by_script.asks_are;
       once = once_idle trace kept idle;
     })
-
--- a source that tells no script has no run
-pub no_script_runs : (config : Config) (told : Option (List ℕ)) (trace : List Entry) (history : List Event) → HasRun config told trace history → TellsNoScript told → ⊥
-no_script_runs config told trace history has tells =
-    let same : tells.bytes ≡ has.bytes = subst (λ (t : Option (List ℕ)). Had t has.bytes) tells.tells has.had
-    in tells.no_script has.run.script (subst (λ (bytes : List ℕ). IsScript bytes has.run.script) (sym same) has.run.is_script)

@@ -1,5 +1,6 @@
-pub mod Building
-pub mod Headlines
-pub mod Idling
-pub mod Usages
-pub mod Writing
+mod Headlines
+mod Idling
+mod Loading
+mod Reporting
+mod Sources
+mod Writing

@@ -1,5 +1,5 @@
 -- What a run is: the theorem that the contract of the top call carries. Own.
-use Rattle.std.specs.Prelude.{ℕ, ◌≤◌, List, [], ◌∷◌, ◌++◌, ◌≡◌, count_by, ◌==◌, Option, Some, IfSome}
+use Rattle.std.specs.Prelude.{ℕ, ◌≤◌, List, [], ◌∷◌, ◌++◌, ◌≡◌, count_by, ◌==◌, Option, Some}
 use Rattle.std.specs.List.{AllByRecursion}
 use Rattle.ak_labor.specs.Waits.{Handed}
 use Rattle.ak_trace.specs.declared.entry.Entry.{Entry}
@@ -10,18 +10,16 @@ use Rattle.ak_history.specs.Events.{handed, begun}
 use Rattle.ak_history.specs.Legal.{Legal}
 use Rattle.ak_history.specs.Scheduler.{asks, replies}
 use Rattle.ak_script.specs.declared.script.Proc.{Proc}
-use Rattle.ak_syntax.specs.Grammar.{Reads, IsBuilt}
+use Rattle.ak_syntax.specs.Grammar.{Reads}
 use Rattle.ak_valid.specs.Valid.{Valid}
 use Rattle.ak_valid.specs.Numbered.{numbered, main_of}
 use Rattle.ak_machine.specs.declared.config.Config.{Config}
 use Rattle.ak_machine.specs.Run.{Run, HasEnded, run_of}
 use Rattle.ak_top.specs.Reading.{Had}
-use Rattle.ak_top.specs.Words.{Runs, IsCommand}
 
--- the bytes are a valid script, of the statements that are built
+-- the bytes are a valid script
 pub record IsScript (bytes : List ℕ) (script : List Proc) : Type 0 where
   pub reads : Reads bytes script
-  pub built : IsBuilt script
   pub valid : Valid script
 
 -- the run of the machine for a script, on the replies that a history gave its scheduler
@@ -53,32 +51,16 @@ pub record RunsTo (config : Config) (bytes : List ℕ) (trace : List Entry) (his
   -- each accepted work is begun at most once, and exactly once where the run ended idle
   pub once : StartOnce trace history
 
--- The headline, for the words of a command and what a source had.
-pub record IsRun (words : List (List ℕ)) (told : Option (List ℕ)) (trace : List Entry) (history : List Event) : Type 0 where
-  -- the settings of the command
-  pub config : Config
-  pub runs : Runs words config
+-- The headline, for the settings of a command and what a source had.
+pub record IsRun (config : Config) (told : Option (List ℕ)) (trace : List Entry) (history : List Event) : Type 0 where
   -- all the bytes of the source
   pub bytes : List ℕ
   pub had : Had told bytes
   pub run : RunsTo config bytes trace history
 
-abbrev pub IsNoScript : List ℕ → Type 0
-IsNoScript bytes = (script : List Proc) → IsScript bytes script → ⊥
-
--- no bytes that the source may have had are a script
-abbrev pub HadNoScript : Option (List ℕ) → Type 0
-HadNoScript told = IfSome told IsNoScript
-
--- the source tells its bytes, and they are no script
-pub record TellsNoScript (told : Option (List ℕ)) : Type 0 where
+-- what a source had is a valid script
+pub record IsValidSource (told : Option (List ℕ)) : Type 0 where
   pub bytes : List ℕ
-  pub tells : told ≡ Some bytes
-  pub no_script : IsNoScript bytes
-
--- the refusal of a script: line 0 and kind 10 say that it is no valid script of what is built
-pub record IsRefused (words : List (List ℕ)) (told : Option (List ℕ)) (line kind : ℕ) : Type 0 where
-  pub command : IsCommand words
-  pub line_is : line ≡ 0
-  pub kind_is : kind ≡ 10
-  pub no_script : HadNoScript told
+  pub had : Had told bytes
+  pub script : List Proc
+  pub is_script : IsScript bytes script

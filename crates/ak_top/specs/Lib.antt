@@ -5,4 +5,4 @@ pub mod Reading
 pub mod Reports
 pub mod Status
 pub mod Stops
-pub mod Words
+pub mod Refusals

@@ -1,5 +1,5 @@
 -- What is read of a source. Own.
-use Rattle.std.specs.Prelude.{ℕ, ◌<◌, ◌≤◌, List, ◌≡◌, length, Option, IfSome}
+use Rattle.std.specs.Prelude.{ℕ, ◌<◌, ◌≤◌, List, ◌++◌, ◌≡◌, ◌⊎◌, length, Option, IfSome}
 use Rattle.ak_base.specs.Streams.{Rose}
 use Rattle.ak_top.specs.declared.reading.Text.{Text}
 use Rattle.ak_top.specs.declared.reading.Text.TheVariants.{Whole, TooLong}
@@ -14,14 +14,23 @@ script_limit = 1048576
 abbrev pub Had : Option (List ℕ) → List ℕ → Type 0
 Had told bytes = IfSome told (λ all. all ≡ bytes)
 
--- a source had more bytes than a script may have, as far as it tells
-abbrev pub HadTooMany : Option (List ℕ) → Type 0
-HadTooMany told = IfSome told (λ all. script_limit < length all)
+-- a source had these bytes first, as far as it tells
+abbrev pub Began : Option (List ℕ) → List ℕ → Type 0
+Began told bytes = IfSome told (λ all. (more : List ℕ) × (all ≡ bytes ++ more))
+
+-- these bytes of a source were read: all of it, or more than a script may have
+abbrev pub WasRead : Option (List ℕ) → List ℕ → Type 0
+WasRead told bytes = (Had told bytes × (length bytes ≤ script_limit)) ⊎ (Began told bytes × (script_limit < length bytes))
 
 -- what was read is all that the source had, or too many bytes
 abbrev pub IsRead : Option (List ℕ) → Text → Type 0
 IsRead told (Whole bytes) = Had told bytes.items × (length bytes.items ≤ script_limit)
-IsRead told TooLong = HadTooMany told
+IsRead told (TooLong bytes) = Began told bytes.items × (script_limit < length bytes.items)
+
+-- the bytes that were read
+abbrev pub read_bytes : Text → List ℕ
+read_bytes (Whole bytes) = bytes.items
+read_bytes (TooLong bytes) = bytes.items
 
 -- a failed read comes only where the count of faults rose
 abbrev pub IsRefusal : ℕ → ℕ → ReadError → Type 0

@@ -1,6 +1,8 @@
 -- Exit statuses and messages. Own.
 use Rattle.std.specs.Prelude.{ℕ, List, [], ◌∷◌, ◌++◌, codes, decimal, slice_index_or}
 use Rattle.ak_text.specs.Decimal.{decimal_of}
+use Rattle.ak_machine.specs.Status.{Stat, Well, ByError, AtJobLimit, Unfinished}
+use Rattle.ak_machine.specs.Status as stat
 use Rattle.ak_top.specs.declared.status.Status.{Status}
 use Rattle.ak_top.specs.declared.status.Status.TheVariants.{Done, Unhandled, Usage, Refused, ReadFault, WriteFault, Jobs, NoMemory, Stuck}
 
@@ -36,3 +38,11 @@ message_of WriteFault = codes "write fault"
 message_of Jobs = codes "job limit reached"
 message_of NoMemory = codes "no memory"
 message_of Stuck = codes "stuck: all threads are reserved"
+
+-- the status of a run that ended
+abbrev pub status_by : Stat → Status
+status_by Well = Done
+status_by (ByError num) = Unhandled num
+status_by AtJobLimit = Jobs
+status_by stat.Stuck = Stuck
+status_by Unfinished = Done

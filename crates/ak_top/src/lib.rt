@@ -7,4 +7,3 @@ pub mod running;
 pub mod status;
 pub mod stop;
 pub mod top;
-pub mod words;

@@ -2,7 +2,7 @@
 
 ghost use Rattle.std.specs.Prelude.{◌≡◌, ◌≤◌, [], length, IfOk, IfErr, IfSome};
 ghost use Rattle.ak_base.specs.Streams.{Rose, with_front};
-ghost use Rattle.ak_top.specs.Reading.{script_limit, Had, HadTooMany, IsRead, IsRefusal};
+ghost use Rattle.ak_top.specs.Reading.{script_limit, Had, Began, IsRead, IsRefusal, read_bytes};
 
 use ak_base::list::NoMemory;
 use ak_base::source::{ReadFailed, Source};
@@ -14,11 +14,23 @@ pub const SCRIPT_LIMIT: usize = 1_048_576;
 // How many bytes one read has room for.
 const ROOM: usize = 4096;
 
-/// What was read: the whole source, or more than a script may have.
+/// What was read: the whole source, or its first bytes, which are more than a script may have.
 #[derive(Debug, Drop)]
 pub enum Text {
     Whole(Vec<u8>),
-    TooLong,
+    TooLong(Vec<u8>),
+}
+
+impl Text {
+    /// The bytes that were read.
+    pub fn bytes(&self) -> &[u8]
+        ensures { result.now ≡ read_bytes self.now }
+    {
+        match self {
+            Text::Whole(bytes) => bytes.as_slice(),
+            Text::TooLong(bytes) => bytes.as_slice(),
+        }
+    }
 }
 
 /// Why a source was not read to its end or its limit.
@@ -67,5 +79,5 @@ pub fn read_script<S: Source>(alloc: Global, source: &mut S) -> Result<Text, Rea
         }
         bytes.extend_from_slice(&room[..count])?;
     }
-    Ok(Text::TooLong)
+    Ok(Text::TooLong(bytes))
 }

@@ -1,17 +1,27 @@
 //! A script from its source to its trace.
 
-ghost use Rattle.std.specs.Prelude.{◌≡◌, ◌≤◌, ◌<◌, IfOk, IfErr};
-ghost use Rattle.ak_machine.specs.Status.{Well, status_of};
-ghost use Rattle.ak_top.specs.Headline.{RunsTo};
-ghost use Rattle.ak_top.specs.Stops.{IsStop, IsRefusalOf, HasRun};
+ghost use Rattle.std.specs.Prelude.{◌≡◌, ◌≤◌, ℕ, List, IfOk, IfErr, OnOk, MatchOption};
+ghost use Rattle.ak_script.specs.declared.script.Proc.{Proc};
+ghost use Rattle.ak_cycle.specs.Turns.{IsFinished};
+ghost use Rattle.ak_exec.specs.Built.{AreBuilt, FirstUnbuilt, statements};
+ghost use Rattle.ak_machine.specs.declared.config.Config.{Config as Settings};
+ghost use Rattle.ak_machine.specs.Status.{status_of};
+ghost use Rattle.ak_valid.specs.Numbered.{numbered};
+ghost use Rattle.ak_words.specs.declared.command.Command.TheVariants.{Run, Check};
+ghost use Rattle.ak_top.specs.Headline.{IsScript, RunsTo, IsRun, IsValidSource};
+ghost use Rattle.ak_top.specs.Reading.{WasRead};
+ghost use Rattle.ak_top.specs.Refusals.{ScriptFault, FaultFor, TellsFault, TellsScript};
+ghost use Rattle.ak_top.specs.Stops.{IsStop, StopsFor, IsNoProgram, IsProgramOf, Refuses, Accepts};
 
 use crate::no_works::NoWorks;
 use crate::reading::{Text, read_script};
 use crate::stop::Stop;
 use ak_base::source::Source;
 use ak_cycle::cycle::run;
+use ak_exec::built::first_unbuilt;
 use ak_history::event::History;
 use ak_machine::config::Config;
+use ak_program::program::Program;
 use ak_syntax::parse::parse;
 use ak_trace::entry::Trace;
 use ak_valid::validate::validate;
@@ -24,34 +34,119 @@ pub struct Ran {
     pub history: History,
 }
 
+/// The kind of a script with a statement that is not built.
+const UNBUILT: u8 = 10;
+
 /// Reads a script and runs it.
-pub fn run_script<S: Source>(alloc: Global, config: Config, source: &mut S) -> Result<Ran, Stop>
-    requires limit { 0 < config.limit }
-    requires jobs { 0 < config.jobs }
-    ensures ran { IfOk result (λ ran. HasRun config (S.left source.old) ran.trace ran.history) }
-    ensures well { IfOk result (λ ran. status_of ran.trace ≡ Well) }
-    ensures stop { IfErr result (IsStop (S.left source.old) (S.faults source.old) (S.faults source.new)) }
+pub fn run_source<S: Source>(alloc: Global, config: Config, source: &mut S) -> Result<Ran, Stop>
+    requires { 1 ≤ config.limit }
+    ensures ran { IfOk result (λ ran. IsRun config (S.left source.old) ran.trace ran.history) }
+    ensures finished { IfOk result (λ ran. IsFinished (status_of ran.trace)) }
+    ensures stop { IfErr result (IsStop (Run config) (S.left source.old) (S.faults source.old) (S.faults source.new)) }
+    ensures refuses { (line kind : ℕ) → TellsFault (Run config) (S.left source.old) line kind → Refuses line kind result }
+    ensures accepts { TellsScript (Run config) (S.left source.old) → Accepts result }
     ensures faults { S.faults source.old ≤ S.faults source.new }
 {
-    match read_script(alloc, source)? {
-        Text::Whole(bytes) => run_bytes(alloc, config, bytes.as_slice()),
-        Text::TooLong => Err(Stop::Refused),
+    match read_script(alloc, source) {
+        Ok(text) => run_bytes(alloc, config, text.bytes()),
+        Err(error) => Err(Stop::from(error)),
+    }
+}
+
+/// Reads a script and tests it.
+pub fn check_source<S: Source>(alloc: Global, source: &mut S) -> Result<(), Stop>
+    ensures valid { OnOk result (IsValidSource (S.left source.old)) }
+    ensures stop { IfErr result (IsStop Check (S.left source.old) (S.faults source.old) (S.faults source.new)) }
+    ensures refuses { (line kind : ℕ) → TellsFault Check (S.left source.old) line kind → Refuses line kind result }
+    ensures accepts { TellsScript Check (S.left source.old) → Accepts result }
+    ensures faults { S.faults source.old ≤ S.faults source.new }
+{
+    match read_script(alloc, source) {
+        Ok(text) => check_bytes(alloc, text.bytes()),
+        Err(error) => Err(Stop::from(error)),
+    }
+}
+
+// Tests the script in these bytes.
+fn check_bytes(alloc: Global, bytes: &[u8]) -> Result<(), Stop>
+    ensures valid { OnOk result ((script : List Proc) × IsScript bytes.now script) }
+    ensures stop { IfErr result (StopsFor Check bytes.now) }
+    ensures refuses { (line kind : ℕ) → FaultFor Check bytes.now line kind → Refuses line kind result }
+    ensures accepts { (script : List Proc) → IsScript bytes.now script → Accepts result }
+{
+    match load(alloc, bytes) {
+        Ok(_program) => Ok(()),
+        Err(stop) => Err(stop),
     }
 }
 
 // Runs the script in these bytes.
 fn run_bytes(alloc: Global, config: Config, bytes: &[u8]) -> Result<Ran, Stop>
-    requires limit { 0 < config.limit }
-    requires jobs { 0 < config.jobs }
+    requires { 1 ≤ config.limit }
     ensures ran { IfOk result (λ ran. RunsTo config bytes.now ran.trace ran.history) }
-    ensures well { IfOk result (λ ran. status_of ran.trace ≡ Well) }
-    ensures stop { IfErr result (IsRefusalOf bytes.now) }
+    ensures finished { IfOk result (λ ran. IsFinished (status_of ran.trace)) }
+    ensures stop { IfErr result (StopsFor (Run config) bytes.now) }
+    ensures refuses { (line kind : ℕ) → FaultFor (Run config) bytes.now line kind → Refuses line kind result }
+    ensures accepts { (script : List Proc) → IsScript bytes.now script → AreBuilt (numbered script) → Accepts result }
 {
-    let program = validate(alloc, parse(alloc, bytes)?)?;
+    match load_built(alloc, bytes) {
+        Ok(program) => run_program(alloc, config, bytes, program),
+        Err(stop) => Err(stop),
+    }
+}
+
+// Runs a program over a pool without works.
+fn run_program(alloc: Global, config: Config, bytes: &[u8], program: Program) -> Result<Ran, Stop>
+    requires limit { 1 ≤ config.limit }
+    requires program { IsProgramOf bytes.now program }
+    requires built { AreBuilt program.procs }
+    ensures ran { IfOk result (λ ran. RunsTo config bytes.now ran.trace ran.history) }
+    ensures finished { IfOk result (λ ran. IsFinished (status_of ran.trace)) }
+    ensures stop { IfErr result (λ stop. stop ≡ Stop.NoMemory) }
+{
     let mut pool = NoWorks::make(alloc, config.threads);
     let trace = run(alloc, program, config, &mut pool)?;
     Ok(Ran {
         trace,
         history: pool.into_history(),
     })
+}
+
+// The program of the script in these bytes, each of whose statements is built.
+fn load_built(alloc: Global, bytes: &[u8]) -> Result<Program, Stop>
+    ensures program { IfOk result (IsProgramOf bytes.now) }
+    ensures built { IfOk result (λ program. AreBuilt program.procs) }
+    ensures stop { (config : Settings) → IfErr result (StopsFor (Run config) bytes.now) }
+    ensures refuses { (config : Settings) (line kind : ℕ) → FaultFor (Run config) bytes.now line kind → Refuses line kind result }
+    ensures accepts { (script : List Proc) → IsScript bytes.now script → AreBuilt (numbered script) → Accepts result }
+{
+    match load(alloc, bytes) {
+        Ok(program) => match first_unbuilt(&program) {
+            None => Ok(program),
+            Some(line) => {
+                drop(program);
+                Err(Stop::Refused {
+                    line,
+                    kind: UNBUILT,
+                })
+            }
+        },
+        Err(stop) => Err(stop),
+    }
+}
+
+// The program of the script in these bytes.
+fn load(alloc: Global, bytes: &[u8]) -> Result<Program, Stop>
+    ensures program { IfOk result (IsProgramOf bytes.now) }
+    ensures stop { IfErr result (IsNoProgram bytes.now) }
+    ensures refuses { (line kind : ℕ) → ScriptFault bytes.now line kind → Refuses line kind result }
+    ensures accepts { (script : List Proc) → IsScript bytes.now script → Accepts result }
+{
+    match parse(alloc, bytes) {
+        Ok(script) => match validate(alloc, script) {
+            Ok(program) => Ok(program),
+            Err(refused) => Err(Stop::from(refused)),
+        },
+        Err(refused) => Err(Stop::from(refused)),
+    }
 }

@@ -1,14 +1,16 @@
 //! How a command ended.
 
-ghost use Rattle.std.specs.Prelude.{◌≡◌, ◌++◌, IfOk, OnOk, decimal};
+ghost use Rattle.std.specs.Prelude.{◌≡◌, ◌∷◌, ◌++◌, IfOk, OnOk, decimal, reverse};
+ghost use Rattle.ak_machine.specs.Status.{status_back, status_of};
+ghost use Rattle.ak_cycle.specs.Turns.{IsFinished};
 ghost use Rattle.ak_text.specs.Decimal.{decimal_of};
-ghost use Rattle.ak_top.specs.Status.{number_of, message_of, name_of_kind};
+ghost use Rattle.ak_top.specs.Status.{number_of, message_of, name_of_kind, status_by};
 
 use ak_base::list::NoMemory;
 use ak_base::number::Num;
 use ak_history::event::History;
 use ak_text::decimal::{write_num, write_u64};
-use ak_trace::entry::Trace;
+use ak_trace::entry::{Ending, Entry, Trace};
 use std::alloc::Global;
 
 /// How a command ended.
@@ -50,6 +52,34 @@ impl Status {
             Status::NoMemory => 7,
             Status::Stuck => 10,
         }
+    }
+}
+
+/// The status that the last entries of a trace tell, where the trace has its end.
+pub fn status_of_trace(trace: &Trace) -> Status
+    requires { IsFinished (status_of trace.now) }
+    ensures { result ≡ status_by (status_of trace.now) }
+{
+    match trace.as_slice() {
+        [before @ .., Entry::End { why }] => status_at_end(before, *why),
+        _ => unreachable!(),
+    }
+}
+
+// The status of a run that ended for a reason, behind these entries.
+fn status_at_end(before: &[Entry], why: Ending) -> Status
+    requires { IsFinished (status_back (Entry.End why ∷ reverse before.now)) }
+    ensures { result ≡ status_by (status_back (Entry.End why ∷ reverse before.now)) }
+{
+    match why {
+        Ending::Idle => Status::Done,
+        Ending::Stopped => Status::Done,
+        Ending::Jobs => Status::Jobs,
+        Ending::Stuck => Status::Stuck,
+        Ending::Unhandled => match before {
+            [.., Entry::Unhandled { num }] => Status::Unhandled { num: *num },
+            _ => unreachable!(),
+        },
     }
 }
 

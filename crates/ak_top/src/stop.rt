@@ -15,8 +15,8 @@ use ak_valid::refusal::ValidRefused;
 pub enum Stop {
     /// A read of the source failed.
     ReadFault,
-    /// The source holds no valid script of what is built.
-    Refused,
+    /// The script is refused: a line from 1, or 0 for the script as a whole, and the kind of the fault.
+    Refused { line: u32, kind: u8 },
     NoMemory,
 }
 
@@ -27,7 +27,7 @@ impl Stop {
     {
         match self {
             Stop::ReadFault => Status::ReadFault,
-            Stop::Refused => Status::Refused { line: 0, kind: 10 },
+            Stop::Refused { line, kind } => Status::Refused { line, kind },
             Stop::NoMemory => Status::NoMemory,
         }
     }
@@ -55,7 +55,7 @@ impl From<ParseRefused> for Stop {
 
     fn from(error: ParseRefused) -> Stop {
         match error {
-            ParseRefused::At { .. } => Stop::Refused,
+            ParseRefused::At { line, kind } => Stop::Refused { line, kind },
             ParseRefused::NoMemory => Stop::NoMemory,
         }
     }
@@ -69,7 +69,7 @@ impl From<ValidRefused> for Stop {
 
     fn from(error: ValidRefused) -> Stop {
         match error {
-            ValidRefused::At { .. } => Stop::Refused,
+            ValidRefused::At { line, kind } => Stop::Refused { line, kind },
             ValidRefused::NoMemory => Stop::NoMemory,
         }
     }

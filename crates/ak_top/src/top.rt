@@ -1,66 +1,68 @@
 //! The top call.
 
-ghost use Rattle.std.specs.Prelude.{◌≡◌, ◌≤◌, ◌↔◌, ◌⊎◌, ℕ, [], true, false, OnOk, OnErr};
+ghost use Rattle.std.specs.Prelude.{◌≡◌, ◌≢◌, ◌≤◌, ◌↔◌, ◌⊎◌, ℕ, [], false, OnOk, OnErr, IfOk, codes, slice_get, Some};
 ghost use Rattle.ak_base.specs.Streams.{Rose, grown, TookBeginning};
-ghost use Rattle.ak_top.specs.Headline.{IsRun, IsRefused, TellsNoScript};
-ghost use Rattle.ak_top.specs.Output.{output};
-ghost use Rattle.ak_top.specs.Reports.{has_run, Shows, Took, IsWithoutScript};
-ghost use Rattle.ak_top.specs.Words.{IsCommand, IsUsageFault};
-ghost use Rattle.ak_machine.specs.Status.{Well, status_of};
+ghost use Rattle.ak_cycle.specs.Turns.{IsFinished};
+ghost use Rattle.ak_machine.specs.Status.{status_of};
+ghost use Rattle.ak_words.specs.declared.command.Command.{Command as Order};
+ghost use Rattle.ak_words.specs.declared.command.Command.TheVariants.{Run, Check};
+ghost use Rattle.ak_words.specs.Words.{Means, IsCommand, IsUsageFault};
+ghost use Rattle.ak_top.specs.Output.{output, output_of, valid_line};
+ghost use Rattle.ak_top.specs.Refusals.{TellsScript};
+ghost use Rattle.ak_top.specs.Reports.{is_carried_out, Took, Reports, ReportsRun, ReportsCheck, EndsWell};
+ghost use Rattle.ak_top.specs.Status.{status_by};
 
-use crate::running::{Ran, run_script};
-use crate::status::{Report, Status};
-use crate::words::command;
+use crate::running::{Ran, check_source, run_source};
+use crate::status::{Report, Status, status_of_trace};
 use ak_base::buffer::Buffer;
 use ak_base::list::{Items, Word};
 use ak_base::sink::{Sink, WriteFailed};
 use ak_base::source::Source;
 use ak_history::event::History;
 use ak_history::text::put_history;
+use ak_machine::config::Config;
 use ak_trace::entry::Trace;
 use ak_trace::text::put_trace;
+use ak_words::command::{Command, read_command};
 use std::alloc::Global;
 
-/// Carries out the command that the words give: `run` reads a script from the source, runs it on a pool without
-/// works, and writes the text of its trace and of its history to the sink. Own.
+/// Carries out the command that the words give. `run` reads a script from the source, runs it on a pool without works,
+/// and writes the text of its trace and of its history to the sink. `check` reads a script and writes the line `valid`
+/// where it has no fault. Own.
 ///
 /// The source is read to its end, to a failed read, or until it gave one byte more than a script may have; each read
 /// has room for a byte at least. Nothing is written before the run has ended, no empty piece is ever written, and
 /// writing takes no memory.
 ///
 /// The statuses, in the order in which their causes are tried: `Usage` where the words are no command; `ReadFault`;
-/// `Refused` where the source holds no valid script of what is built; then the run's own end, or `WriteFault`.
-/// `NoMemory` may come before the first byte is written.
+/// `Refused` by the first line of the script with a fault, and the least kind of its faults; then the run's own end, or
+/// `WriteFault`. `NoMemory` may come before the first byte is written.
 pub fn top<S: Source, K: Sink>(
     alloc: Global,
     words: &[Word],
     source: &mut S,
     sink: &mut K,
 ) -> Report
-    // the headline: the trace and the history are those of a run, and their text is what the sink took
-    ensures run { has_run result.status ≡ true → IsRun words.now (S.left source.old) result.trace result.history }
-    ensures took { Took result.status (K.taken sink.old) (K.taken sink.new) (output result.trace result.history) }
-    ensures shows { Shows result.status (status_of result.trace) }
+    // the headline stands in the report of a run
+    ensures reports { (command : Order) → Means words.now command → Reports command (S.left source.old) result }
+    ensures took { (command : Order) → Means words.now command → Took result.status (K.taken sink.old) (K.taken sink.new) (output_of command result.trace result.history) }
 
-    // where there was no run, there is no trace and no history
-    ensures no_trace { has_run result.status ≡ false → result.trace ≡ [] }
-    ensures no_history { has_run result.status ≡ false → result.history ≡ [] }
-
-    // when each other answer comes
+    // words that are no command
     ensures usage { (place : ℕ) → (result.status ≡ Status.Usage place) ↔ IsUsageFault words.now place }
-    ensures read_fault { result.status ≡ Status.ReadFault → IsCommand words.now × Rose (S.faults source.old) (S.faults source.new) }
-    ensures refused { (line kind : ℕ) → result.status ≡ Status.Refused line kind → IsRefused words.now (S.left source.old) line kind }
-    ensures refuses { IsCommand words.now → TellsNoScript (S.left source.old) → IsWithoutScript result.status }
-    ensures write_fault { result.status ≡ Status.WriteFault → Rose (K.faults sink.old) (K.faults sink.new) }
+    ensures bare { is_carried_out result.status ≡ false → (result.trace ≡ []) × (result.history ≡ []) × (K.taken sink.new ≡ K.taken sink.old) }
 
+    // faults of reading and writing come only where a count rose, and without them a script that can be run is run
+    ensures read_fault { result.status ≡ Status.ReadFault → IsCommand words.now × Rose (S.faults source.old) (S.faults source.new) }
+    ensures write_fault { result.status ≡ Status.WriteFault → IsCommand words.now × Rose (K.faults sink.old) (K.faults sink.new) }
+    ensures complete { (command : Order) → Means words.now command → TellsScript command (S.left source.old)
+        → (Rose (S.faults source.old) (S.faults source.new) → ⊥) → (Rose (K.faults sink.old) (K.faults sink.new) → ⊥)
+        → EndsWell result.status }
     ensures source_faults { S.faults source.old ≤ S.faults source.new }
     ensures sink_faults { K.faults sink.old ≤ K.faults sink.new }
 {
-    match command(words) {
-        Ok(config) => match run_script(alloc, config, source) {
-            Ok(ran) => write_run(ran, sink),
-            Err(stop) => without_run(alloc, stop.status()),
-        },
+    match read_command(words) {
+        Ok(Command::Run(config)) => run_command(alloc, config, source, sink),
+        Ok(Command::Check) => check_command(alloc, source, sink),
         Err(place) => without_run(alloc, Status::Usage { place }),
     }
 }
@@ -76,19 +78,41 @@ fn without_run(alloc: Global, status: Status) -> Report
     }
 }
 
+// Reads a script, runs it and writes what comes of it.
+fn run_command<S: Source, K: Sink>(
+    alloc: Global,
+    config: Config,
+    source: &mut S,
+    sink: &mut K,
+) -> Report
+    requires { 1 ≤ config.limit }
+    ensures reports { ReportsRun config (S.left source.old) result }
+    ensures took { Took result.status (K.taken sink.old) (K.taken sink.new) (output result.trace result.history) }
+    ensures read_fault { result.status ≡ Status.ReadFault → Rose (S.faults source.old) (S.faults source.new) }
+    ensures write_fault { result.status ≡ Status.WriteFault → Rose (K.faults sink.old) (K.faults sink.new) }
+    ensures usage { (place : ℕ) → result.status ≢ Status.Usage place }
+    ensures source_faults { S.faults source.old ≤ S.faults source.new }
+    ensures sink_faults { K.faults sink.old ≤ K.faults sink.new }
+{
+    match run_source(alloc, config, source) {
+        Ok(ran) => write_run(ran, sink),
+        Err(stop) => without_run(alloc, stop.status()),
+    }
+}
+
 // Writes a run, and reports it.
 fn write_run<K: Sink>(ran: Ran, sink: &mut K) -> Report
-    requires { status_of ran.trace ≡ Well }
+    requires { IsFinished (status_of ran.trace) }
     ensures trace { result.trace ≡ ran.trace }
     ensures history { result.history ≡ ran.history }
-    ensures status { (result.status ≡ Status.Done) ⊎ (result.status ≡ Status.WriteFault) }
+    ensures status { (result.status ≡ status_by (status_of ran.trace)) ⊎ (result.status ≡ Status.WriteFault) }
     ensures took { Took result.status (K.taken sink.old) (K.taken sink.new) (output ran.trace ran.history) }
     ensures write_fault { result.status ≡ Status.WriteFault → Rose (K.faults sink.old) (K.faults sink.new) }
     ensures faults { K.faults sink.old ≤ K.faults sink.new }
 {
     let Ran { trace, history } = ran;
     let status = match write_output(&trace, &history, sink) {
-        Ok(()) => Status::Done,
+        Ok(()) => status_of_trace(&trace),
         Err(WriteFailed) => Status::WriteFault,
     };
     Report {
@@ -96,6 +120,37 @@ fn write_run<K: Sink>(ran: Ran, sink: &mut K) -> Report
         trace,
         history,
     }
+}
+
+// Reads a script, tests it and writes that it is valid.
+fn check_command<S: Source, K: Sink>(alloc: Global, source: &mut S, sink: &mut K) -> Report
+    ensures reports { ReportsCheck (S.left source.old) result }
+    ensures took { Took result.status (K.taken sink.old) (K.taken sink.new) valid_line }
+    ensures read_fault { result.status ≡ Status.ReadFault → Rose (S.faults source.old) (S.faults source.new) }
+    ensures write_fault { result.status ≡ Status.WriteFault → Rose (K.faults sink.old) (K.faults sink.new) }
+    ensures source_faults { S.faults source.old ≤ S.faults source.new }
+    ensures sink_faults { K.faults sink.old ≤ K.faults sink.new }
+{
+    match check_source(alloc, source) {
+        Ok(()) => match write_valid(sink) {
+            Ok(()) => without_run(alloc, Status::Done),
+            Err(WriteFailed) => without_run(alloc, Status::WriteFault),
+        },
+        Err(stop) => without_run(alloc, stop.status()),
+    }
+}
+
+// Writes the line of a script without a fault.
+fn write_valid<K: Sink>(sink: &mut K) -> Result<(), WriteFailed>
+    ensures takes { OnOk result (K.taken sink.new ≡ grown (K.taken sink.old) valid_line) }
+    ensures begins { OnErr result (TookBeginning (K.taken sink.old) (K.taken sink.new) valid_line) }
+    ensures never_falls { K.faults sink.old ≤ K.faults sink.new }
+    ensures cause { OnErr result (Rose (K.faults sink.old) (K.faults sink.new)) }
+{
+    let mut buffer = Buffer::new();
+    buffer.put(sink, b"valid\n")?;
+    buffer.flush(sink)?;
+    Ok(())
 }
 
 // Writes the text of a trace and of a history.

@@ -7,19 +7,29 @@ use crate::status::message;
 use ak_base::list::NoMemory;
 use ak_base::memory::{MemSink, MemSource};
 
-const SCRIPT: &[u8] = b"proc main\nprint 7\nend\n";
+const SCRIPT: &str = "proc main; print 7; end";
 
-const OUTPUT: &[u8] = b"enq 0 normal\ncycle\njob 0\nprint 7\nend idle\n%pool\nidle 2\nclose\n";
+const OUTPUT: &str = "enq 0 normal; cycle; job 0; print 7; end idle; %pool; idle 2; close";
 
 fn word(alloc: Global, text: &str) -> Result<Word, NoMemory> {
     Ok(Items::from_vec(Vec::from_slice(alloc, text.as_bytes())?))
+}
+
+// Lines that are told with `; ` between them.
+fn lines(alloc: Global, text: &str) -> Result<Vec<u8>, NoMemory> {
+    let mut bytes = Vec::new(alloc);
+    for line in text.split("; ") {
+        bytes.extend_from_slice(line.as_bytes())?;
+        bytes.push(b'\n')?;
+    }
+    Ok(bytes)
 }
 
 // The status of the command with these words, and what the sink took: pieces of so many bytes, and calls that fail.
 fn command_gives(
     alloc: Global,
     words: &[&str],
-    script: &[u8],
+    script: Vec<u8>,
     piece: usize,
     failing_reads: Vec<u32>,
     failing_writes: Vec<u32>,
@@ -30,28 +40,217 @@ fn command_gives(
     for text in words {
         list.push(word(alloc, text)?)?;
     }
-    let mut source = MemSource::make(Vec::from_slice(alloc, script)?, piece, failing_reads);
+    let mut source = MemSource::make(script, piece, failing_reads);
     let mut sink = MemSink::make(alloc, 10_000, piece, failing_writes)?;
     let report = top(alloc, list.as_slice(), &mut source, &mut sink);
     let taken = Vec::from_slice(alloc, sink.taken())?;
     Ok((report.status, taken))
 }
 
-#[test]
-fn a_number_is_printed(rt: HostRuntime) -> Result<(), NoMemory> {
-    let alloc = rt.alloc();
-    for piece in [1, 7, 10_000] {
-        let (status, taken) = command_gives(
+// A case of a command: its words, the script, the status and the output.
+type Case = (&'static [&'static str], &'static str, Status, &'static str);
+
+// Whether each case is as it is told.
+fn first_wrong(alloc: Global, cases: &[Case]) -> Result<Option<usize>, NoMemory> {
+    for (place, (words, script, status, output)) in cases.iter().enumerate() {
+        let (given, taken) = command_gives(
             alloc,
-            &["run"],
-            SCRIPT,
-            piece,
+            words,
+            lines(alloc, script)?,
+            4096,
             Vec::new(alloc),
             Vec::new(alloc),
         )?;
-        assert_eq!(rt; status, Status::Done);
-        assert_eq!(rt; taken.as_slice(), OUTPUT);
+        let wanted = if output.is_empty() {
+            Vec::new(alloc)
+        } else {
+            lines(alloc, output)?
+        };
+        if given != *status || taken.as_slice() != wanted.as_slice() {
+            return Ok(Some(place));
+        }
     }
+    Ok(None)
+}
+
+const fn refused(line: u32, kind: u8) -> Status {
+    Status::Refused { line, kind }
+}
+
+#[test]
+fn runs_are_told(rt: HostRuntime) -> Result<(), NoMemory> {
+    let run: &[&str] = &["run"];
+    let cases: [Case; 8] = [
+        (run, SCRIPT, Status::Done, OUTPUT),
+        (
+            run,
+            "proc main; ivar i; upon i A 1; fill i 5; upon i A 2; print 0; end; proc A v:num w:num; print v; print w; end",
+            Status::Done,
+            "enq 0 normal; cycle; job 0; fill 0 5; enq 1 normal; enq 2 normal; print 0; job 1; print 5; print 1; job 2; print 5; print 2; end idle; %pool; idle 4; close",
+        ),
+        (
+            run,
+            "proc main; ivar i; fill i 1; fill i 2; print 9; end",
+            Status::Unhandled { num: -3 },
+            "enq 0 normal; cycle; job 0; fill 0 1; error -3 0; unhandled -3; end unhandled; %pool; idle 1; close",
+        ),
+        (
+            run,
+            "proc main; ivar i; ivar j; upon i A j; upon j B; fill i 1; end; proc A v:num j:ivar; fill j 2; end; proc B v:num; print v; end",
+            Status::Done,
+            "enq 0 normal; cycle; job 0; fill 0 1; enq 1 normal; job 1; fill 1 2; enq 2 normal; job 2; print 2; end idle; %pool; idle 4; close",
+        ),
+        (
+            run,
+            "proc main; ivar i; ivar g; bind a g P i; bind b g P i; upon a Q 1; upon i Q 2; upon b Q 3; upon a Q 4; fill g 0; sched F i; end; proc P v:num x:ivar; ret x; end; proc Q v:num w:num; print w; end; proc F x:ivar; fill x 8; end",
+            Status::Done,
+            "enq 0 normal; cycle; job 0; fill 1 0; enq 1 normal; enq 2 normal; enq 3 normal; job 1; join 2 0; job 2; join 3 2; job 3; fill 3 8; enq 4 normal; enq 5 normal; enq 6 normal; enq 7 normal; job 4; print 1; job 5; print 2; job 6; print 3; job 7; print 4; end idle; %pool; idle 9; close",
+        ),
+        (
+            &["run", "--limit", "1"],
+            "proc main; low B; sched A; sched A; end; proc A; print 1; end; proc B; print 2; sched A; end",
+            Status::Done,
+            "enq 0 normal; cycle; job 0; enq 1 low; enq 2 normal; enq 3 normal; job 1; print 2; enq 4 normal; cycle; job 2; print 1; cycle; job 3; print 1; cycle; job 4; print 1; end idle; %pool; idle 9; close",
+        ),
+        (
+            &["run", "--jobs", "3"],
+            "proc main; sched A; sched A; sched A; end; proc A; print 1; end",
+            Status::Jobs,
+            "enq 0 normal; cycle; job 0; enq 1 normal; enq 2 normal; enq 3 normal; job 1; print 1; job 2; print 1; end jobs; %pool; idle 4; close",
+        ),
+        (
+            &["run", "--jobs", "3"],
+            "proc main; sched A; sched A; end; proc A; print 1; end",
+            Status::Done,
+            "enq 0 normal; cycle; job 0; enq 1 normal; enq 2 normal; job 1; print 1; job 2; print 1; end idle; %pool; idle 4; close",
+        ),
+    ];
+    assert_eq!(rt; first_wrong(rt.alloc(), &cases)?, None);
+    Ok(())
+}
+
+#[test]
+fn numbers_are_computed(rt: HostRuntime) -> Result<(), NoMemory> {
+    let run: &[&str] = &["run"];
+    let overflow =
+        "enq 0 normal; cycle; job 0; error -1 0; unhandled -1; end unhandled; %pool; idle 1; close";
+    let zero =
+        "enq 0 normal; cycle; job 0; error -2 0; unhandled -2; end unhandled; %pool; idle 1; close";
+    let cases: [Case; 8] = [
+        (
+            run,
+            "proc main; set x 9223372036854775807 + 1; print x; end",
+            Status::Unhandled { num: -1 },
+            overflow,
+        ),
+        (
+            run,
+            "proc main; set x 1 / 0; print x; end",
+            Status::Unhandled { num: -2 },
+            zero,
+        ),
+        (
+            run,
+            "proc main; set x 1 % 0; print x; end",
+            Status::Unhandled { num: -2 },
+            zero,
+        ),
+        (
+            run,
+            "proc main; set x -9223372036854775808 / -1; print x; end",
+            Status::Unhandled { num: -1 },
+            overflow,
+        ),
+        (
+            run,
+            "proc main; set x -9223372036854775808 % -1; print x; end",
+            Status::Done,
+            "enq 0 normal; cycle; job 0; print 0; end idle; %pool; idle 2; close",
+        ),
+        (
+            run,
+            "proc main; set x -7 / 2; print x; end",
+            Status::Done,
+            "enq 0 normal; cycle; job 0; print -3; end idle; %pool; idle 2; close",
+        ),
+        (
+            run,
+            "proc main; set x -7 % 2; print x; end",
+            Status::Done,
+            "enq 0 normal; cycle; job 0; print -1; end idle; %pool; idle 2; close",
+        ),
+        (
+            run,
+            "proc main; set x 2 < 3; print x; end",
+            Status::Done,
+            "enq 0 normal; cycle; job 0; print 1; end idle; %pool; idle 2; close",
+        ),
+    ];
+    assert_eq!(rt; first_wrong(rt.alloc(), &cases)?, None);
+    Ok(())
+}
+
+#[test]
+fn scripts_and_words_are_refused(rt: HostRuntime) -> Result<(), NoMemory> {
+    let run: &[&str] = &["run"];
+    let check: &[&str] = &["check"];
+    let cases: [Case; 19] = [
+        (run, "proc main; print; end", refused(2, 1), ""),
+        (
+            run,
+            "proc main; sched A; end; proc A; stop; end",
+            refused(5, 10),
+            "",
+        ),
+        (run, "# nothing", refused(0, 5), ""),
+        (check, SCRIPT, Status::Done, "valid"),
+        (
+            check,
+            "proc main; sched A; end; proc A; stop; end",
+            Status::Done,
+            "valid",
+        ),
+        (
+            check,
+            "proc main; print 99999999999999999999; end",
+            refused(2, 4),
+            "",
+        ),
+        (check, "proc main; if 1 ivar i; end", refused(2, 1), ""),
+        (check, "proc main", refused(2, 1), ""),
+        (check, "proc main; ivar i; ivar i; end", refused(3, 6), ""),
+        (check, "proc main; print x; end", refused(2, 7), ""),
+        (
+            check,
+            "proc main; never r; fill r 1; end",
+            refused(3, 8),
+            "",
+        ),
+        (check, "proc main; sched main 1; end", refused(2, 9), ""),
+        (&[], SCRIPT, Status::Usage { place: 0 }, ""),
+        (&["RUN"], SCRIPT, Status::Usage { place: 0 }, ""),
+        (&["run", "5"], SCRIPT, Status::Usage { place: 1 }, ""),
+        (&["check", "5"], SCRIPT, Status::Usage { place: 1 }, ""),
+        (
+            &["run", "--threads", "33"],
+            SCRIPT,
+            Status::Usage { place: 2 },
+            "",
+        ),
+        (
+            &["run", "--threads"],
+            SCRIPT,
+            Status::Usage { place: 2 },
+            "",
+        ),
+        (
+            &["run", "--limit", "5", "--limit", "6"],
+            SCRIPT,
+            Status::Usage { place: 3 },
+            "",
+        ),
+    ];
+    assert_eq!(rt; first_wrong(rt.alloc(), &cases)?, None);
     Ok(())
 }
 
@@ -60,7 +259,8 @@ fn each_failing_read_writes_nothing(rt: HostRuntime) -> Result<(), NoMemory> {
     let alloc = rt.alloc();
     for call in 0..23 {
         let failing = vec![in alloc; call]?;
-        let (status, taken) = command_gives(alloc, &["run"], SCRIPT, 1, failing, Vec::new(alloc))?;
+        let script = lines(alloc, SCRIPT)?;
+        let (status, taken) = command_gives(alloc, &["run"], script, 1, failing, Vec::new(alloc))?;
         assert_eq!(rt; status, Status::ReadFault);
         assert!(rt; taken.is_empty());
     }
@@ -70,55 +270,16 @@ fn each_failing_read_writes_nothing(rt: HostRuntime) -> Result<(), NoMemory> {
 #[test]
 fn each_failing_write_leaves_a_beginning(rt: HostRuntime) -> Result<(), NoMemory> {
     let alloc = rt.alloc();
+    let output = lines(alloc, OUTPUT)?;
     for call in 0..61u32 {
         let failing = vec![in alloc; call]?;
-        let (status, taken) = command_gives(alloc, &["run"], SCRIPT, 1, Vec::new(alloc), failing)?;
+        let script = lines(alloc, SCRIPT)?;
+        let (status, taken) = command_gives(alloc, &["run"], script, 1, Vec::new(alloc), failing)?;
         assert_eq!(rt; status, Status::WriteFault);
-        assert_eq!(rt; Some(taken.as_slice()), OUTPUT.get(..call as usize));
-    }
-    Ok(())
-}
-
-#[test]
-fn what_is_not_built_is_refused(rt: HostRuntime) -> Result<(), NoMemory> {
-    let alloc = rt.alloc();
-    let handlers =
-        "proc main\nivar i\nupon i A 1\nfill i 5\nupon i A 2\nprint 0\nend\nproc A v:num w:num\nprint v\nprint w\nend\n";
-    for script in [
-        "proc main\nprint\nend\n",
-        "proc main\nsched A\nend\nproc A\nend\n",
-        "",
-        handlers,
-    ] {
-        let (status, taken) = command_gives(
-            alloc,
-            &["run"],
-            script.as_bytes(),
-            100,
-            Vec::new(alloc),
-            Vec::new(alloc),
-        )?;
-        assert_eq!(rt; status, Status::Refused { line: 0, kind: 10 });
-        assert!(rt; taken.is_empty());
-    }
-    Ok(())
-}
-
-#[test]
-fn words_are_told_where_they_go_wrong(rt: HostRuntime) -> Result<(), NoMemory> {
-    let alloc = rt.alloc();
-    let cases: [(&[&str], u32); 4] = [(&[], 0), (&["check"], 0), (&["run", "5"], 1), (&["RUN"], 0)];
-    for (words, place) in cases {
-        let (status, taken) = command_gives(
-            alloc,
-            words,
-            SCRIPT,
-            100,
-            Vec::new(alloc),
-            Vec::new(alloc),
-        )?;
-        assert_eq!(rt; status, Status::Usage { place });
-        assert!(rt; taken.is_empty());
+        assert_eq!(rt;
+            Some(taken.as_slice()),
+            output.as_slice().get(..call as usize)
+        );
     }
     Ok(())
 }

@@ -1,13 +1,24 @@
 use Rattle.std.proofs.Common.{◌≡◌, ℕ, ap, sym, ◌∙◌, subst}
+use Rattle.ak_words.specs.declared.command.Command.TheVariants.{Run}
+use Rattle.ak_words.specs.Words.{IsUsageFault}
+use Rattle.ak_words.proofs.Usages.{IsUsageFault-unique}
+use Rattle.ak_words.proofs.Meanings.{one_command, has_limit}
 use Rattle.ak_top.specs.declared.status.Status.TheVariants.{Usage}
 use Rattle.ak_top.specs.declared.status.Report.{Report}
-use Rattle.ak_top.specs.Words.{IsUsageFault}
-use Rattle.ak_top.proofs.Usages.{IsUsageFault-unique}
+use Rattle.ak_top.specs.Reports.{Reports}
 use Rattle.ak_top.proofs.top.top.Goals as goal
+
+pub run_command-requires : goal.run_command-requires
+run_command-requires g c = has_limit c.args.words.now c.in-Ok-Run.config (rw c.in-Ok-Run.field-0-is at c.in-Ok-Run.ensures.command)
+
+pub returns-in-Ok-Run-clause-reports : goal.returns-in-Ok-Run-clause-reports
+returns-in-Ok-Run-clause-reports g c = λ command means.
+    subst (λ d. Reports d (g.S.Source.left c.args.source.now) c.run_command.result)
+    (one_command c.args.words.now (Run c.in-Ok-Run.config) command (rw c.in-Ok-Run.field-0-is at c.in-Ok-Run.ensures.command) means) c.run_command.ensures.reports
 
 pub returns-in-Err-clause-usage : goal.returns-in-Err-clause-usage
 returns-in-Err-clause-usage g c place =
-    let told = ap (λ (r : Report). r.status) c.without_run-in-Err.ensures in (
+    let told = ap (λ (r : Report). r.status) c.without_run.ensures in (
       (λ is. let same : c.in-Err.place ≡ place = cc (told, is) in
           subst (λ (p : ℕ). IsUsageFault c.args.words.now p) same c.in-Err.ensures.usage),
       (λ fault. told ∙ ap Usage (sym (IsUsageFault-unique c.args.words.now c.in-Err.place place c.in-Err.ensures.usage fault))),

@@ -1,7 +1,7 @@
 -- The place of a usage fault is one.
 use Rattle.std.proofs.Common.{◌≡◌, ℕ, zero, suc, ◌+◌, ◌<◌, ◌≤◌, List, [], ◌∷◌, ◌++◌, take, drop, refl, sym, ap, ◌∙◌, subst, arith, append_assoc}
 use Rattle.std.proofs.lemmas.List.{take-append-drop}
-use Rattle.ak_top.specs.Words.{IsCommand, BeginsCommand, IsUsageFault}
+use Rattle.ak_words.specs.Words.{IsCommand, BeginsCommand, IsUsageFault}
 
 -- words that begin a command do so with fewer of them
 begins_shorter : (words more : List (List ℕ)) → BeginsCommand (words ++ more) → BeginsCommand words

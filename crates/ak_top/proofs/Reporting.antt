@@ -1,0 +1,112 @@
+-- Reports of commands that were carried out, and of those that were not.
+use Rattle.std.proofs.Common.{◌≡◌, ◌⊎◌, inl, inr, ℕ, List, [], Bool, true, false, refl, sym, ap, ◌∙◌, subst}
+use Rattle.std.specs.Prelude.{Option}
+use Rattle.ak_trace.specs.declared.entry.Entry.{Entry}
+use Rattle.ak_history.specs.declared.event.Event.{Event}
+use Rattle.ak_cycle.specs.Turns.{IsFinished}
+use Rattle.ak_machine.specs.declared.config.Config.{Config}
+use Rattle.ak_machine.specs.Status.{Stat, Well, ByError, AtJobLimit, Unfinished, status_of}
+use Rattle.ak_machine.specs.Status as stat
+use Rattle.ak_words.specs.declared.command.Command.{Command}
+use Rattle.ak_words.specs.declared.command.Command.TheVariants.{Run, Check}
+use Rattle.ak_top.specs.declared.status.Status.{Status}
+use Rattle.ak_top.specs.declared.status.Status.TheVariants.{Done, Unhandled, Usage, Refused, ReadFault, WriteFault, Jobs, NoMemory, Stuck}
+use Rattle.ak_top.specs.declared.status.Report.{Report}
+use Rattle.ak_top.specs.declared.stop.Stop.{Stop}
+use Rattle.ak_top.specs.declared.stop.Stop.TheVariants as stop
+use Rattle.ak_top.specs.Headline.{IsRun, IsValidSource}
+use Rattle.ak_top.specs.Refusals.{IsRefused, TellsFault, TellsScript}
+use Rattle.ak_top.specs.Reports.{is_carried_out, Shows, IsRefusal, IsNoRefusal, IsVerdict, ReportsRun, ReportsCheck}
+use Rattle.ak_top.specs.Status.{status_by}
+use Rattle.ak_top.specs.Stops.{status_at, IsStop, IsTheRefusal, IsNoRefusal as IsNoStop}
+
+-- ---- statuses
+shows_by : (s : Stat) → IsFinished s → Shows (status_by s) s
+shows_by Well f = refl
+shows_by (ByError num) f = refl
+shows_by AtJobLimit f = refl
+shows_by stat.Stuck f = refl
+shows_by Unfinished f = absurd f
+
+carried_by : (s : Stat) → is_carried_out (status_by s) ≡ true
+carried_by Well = refl
+carried_by (ByError num) = refl
+carried_by AtJobLimit = refl
+carried_by stat.Stuck = refl
+carried_by Unfinished = refl
+
+no_refusal : (s : Status) → is_carried_out s ≡ true → IsNoRefusal s
+no_refusal Done c = tt
+no_refusal (Unhandled num) c = tt
+no_refusal (Usage place) c = absurd (cc (c))
+no_refusal (Refused line kind) c = absurd (cc (c))
+no_refusal ReadFault c = tt
+no_refusal WriteFault c = tt
+no_refusal Jobs c = tt
+no_refusal NoMemory c = tt
+no_refusal Stuck c = tt
+
+not_refused : (s : Status) (line kind : ℕ) → is_carried_out s ≡ true → s ≡ Refused line kind → ⊥
+not_refused s line kind c e = let f : is_carried_out s ≡ false = ap is_carried_out e in cc (c, f)
+
+not_both : (s : Status) → is_carried_out s ≡ true → is_carried_out s ≡ false → ⊥
+not_both s c d = cc (c, d)
+
+-- ---- a run
+carried : (s : Status) (t : Stat) → (s ≡ status_by t) ⊎ (s ≡ WriteFault) → is_carried_out s ≡ true
+carried s t (inl e) = ap is_carried_out e ∙ carried_by t
+carried s t (inr e) = ap is_carried_out e
+
+shown : (s : Status) (t : Stat) → IsFinished t → (s ≡ status_by t) ⊎ (s ≡ WriteFault) → Shows s t
+shown s t f (inl e) = subst (λ x. Shows x t) (sym e) (shows_by t f)
+shown s t f (inr e) = subst (λ x. Shows x t) (sym e) tt
+
+pub run_reports : (config : Config) (told : Option (List ℕ)) (r : Report) (trace : List Entry) (history : List Event) → r.trace ≡ trace → r.history ≡ history → IsFinished (status_of trace) → (r.status ≡ status_by (status_of trace)) ⊎ (r.status ≡ WriteFault)
+    → IsRun config told trace history → ((line kind : ℕ) → TellsFault (Run config) told line kind → ⊥) → ReportsRun config told r
+run_reports config told r trace history t h f s is none =
+    let c = carried r.status (status_of trace) s
+    in record {
+      run = λ e. subst (λ x. IsRun config told x r.history) (sym t) (subst (λ x. IsRun config told trace x) (sym h) is);
+      shows = subst (λ x. Shows r.status (status_of x)) (sym t) (shown r.status (status_of trace) f s);
+      bare = λ e. absurd (not_both r.status c e);
+      refused = λ line kind e. absurd (not_refused r.status line kind c e);
+      refuses = λ line kind x. absurd (none line kind x);
+      completes = λ x. no_refusal r.status c;
+    }
+
+abbrev pub bare_report : Status → Report
+bare_report s = record { status = s; trace = []; history = [] }
+
+the_refusal : (command : Command) (told : Option (List ℕ)) (line kind l k : ℕ) → IsRefused command told line kind → Refused line kind ≡ Refused l k → IsRefused command told l k
+the_refusal command told line kind l k is e =
+    let a : line ≡ l = cc (e) in let b : kind ≡ k = cc (e) in subst (λ x. IsRefused command told l x) b (subst (λ x. IsRefused command told x kind) a is)
+
+run_stops : (config : Config) (told : Option (List ℕ)) (before now : ℕ) (s : Stop) → IsStop (Run config) told before now s → ((line kind : ℕ) → TellsFault (Run config) told line kind → IsTheRefusal line kind s) → (TellsScript (Run config) told → IsNoStop s) → ReportsRun config told (bare_report (status_at s))
+run_stops config told before now stop.ReadFault is refuses accepts = record { run = λ e. absurd (cc (e)); shows = tt; bare = λ e. (refl, refl); refused = λ l k e. absurd (cc (e)); refuses = λ l k x. tt; completes = λ x. tt }
+run_stops config told before now (stop.Refused line kind) is refuses accepts = record { run = λ e. absurd (cc (e)); shows = tt; bare = λ e. (refl, refl); refused = λ l k e. the_refusal (Run config) told line kind l k is e; refuses = λ l k x. refuses l k x; completes = λ x. accepts x }
+run_stops config told before now stop.NoMemory is refuses accepts = record { run = λ e. absurd (cc (e)); shows = tt; bare = λ e. (refl, refl); refused = λ l k e. absurd (cc (e)); refuses = λ l k x. tt; completes = λ x. tt }
+
+pub stop_reports_run : (config : Config) (told : Option (List ℕ)) (before now : ℕ) (s : Stop) (status : Status) (r : Report) → r ≡ bare_report status → status ≡ status_at s → IsStop (Run config) told before now s → ((line kind : ℕ) → TellsFault (Run config) told line kind → IsTheRefusal line kind s) → (TellsScript (Run config) told → IsNoStop s) → ReportsRun config told r
+stop_reports_run config told before now s status r e d is refuses accepts = subst (ReportsRun config told) (sym (e ∙ ap bare_report d)) (run_stops config told before now s is refuses accepts)
+
+-- ---- a test of a script
+check_done : (told : Option (List ℕ)) (s : Status) → is_carried_out s ≡ true → IsVerdict s → IsValidSource told → ((line kind : ℕ) → TellsFault Check told line kind → ⊥) → ReportsCheck told (bare_report s)
+check_done told s c v is none = record {
+  verdict = v;
+  valid = λ e. is;
+  bare = (refl, refl);
+  refused = λ line kind e. absurd (not_refused s line kind c e);
+  refuses = λ line kind x. absurd (none line kind x);
+  completes = λ x. no_refusal s c;
+}
+
+pub check_reports : (told : Option (List ℕ)) (s : Status) (r : Report) → r ≡ bare_report s → is_carried_out s ≡ true → IsVerdict s → IsValidSource told → ((line kind : ℕ) → TellsFault Check told line kind → ⊥) → ReportsCheck told r
+check_reports told s r e c v is none = subst (ReportsCheck told) (sym e) (check_done told s c v is none)
+
+check_stops : (told : Option (List ℕ)) (before now : ℕ) (s : Stop) → IsStop Check told before now s → ((line kind : ℕ) → TellsFault Check told line kind → IsTheRefusal line kind s) → (TellsScript Check told → IsNoStop s) → ReportsCheck told (bare_report (status_at s))
+check_stops told before now stop.ReadFault is refuses accepts = record { verdict = tt; valid = λ e. absurd (cc (e)); bare = (refl, refl); refused = λ l k e. absurd (cc (e)); refuses = λ l k x. tt; completes = λ x. tt }
+check_stops told before now (stop.Refused line kind) is refuses accepts = record { verdict = tt; valid = λ e. absurd (cc (e)); bare = (refl, refl); refused = λ l k e. the_refusal Check told line kind l k is e; refuses = λ l k x. refuses l k x; completes = λ x. accepts x }
+check_stops told before now stop.NoMemory is refuses accepts = record { verdict = tt; valid = λ e. absurd (cc (e)); bare = (refl, refl); refused = λ l k e. absurd (cc (e)); refuses = λ l k x. tt; completes = λ x. tt }
+
+pub stop_reports_check : (told : Option (List ℕ)) (before now : ℕ) (s : Stop) (status : Status) (r : Report) → r ≡ bare_report status → status ≡ status_at s → IsStop Check told before now s → ((line kind : ℕ) → TellsFault Check told line kind → IsTheRefusal line kind s) → (TellsScript Check told → IsNoStop s) → ReportsCheck told r
+stop_reports_check told before now s status r e d is refuses accepts = subst (ReportsCheck told) (sym (e ∙ ap bare_report d)) (check_stops told before now s is refuses accepts)

@@ -1,0 +1,3 @@
+mod Places
+pub mod Meanings
+pub mod Usages

@@ -1,0 +1,41 @@
+-- Words mean one command at most, and its settings are in their ranges.
+use Rattle.std.proofs.Common.{◌≡◌, ℕ, ◌≤◌, List, [], ◌∷◌, refl, sym, ap, ◌∙◌, subst, arith, drop}
+use Rattle.std.specs.Prelude.{codes}
+use Rattle.ak_machine.specs.declared.config.Config.{Config}
+use Rattle.ak_words.specs.declared.command.Command.{Command}
+use Rattle.ak_words.specs.declared.command.Command.TheVariants.{Run, Check}
+use Rattle.ak_words.specs.declared.settings.Setting.{Setting}
+use Rattle.ak_words.specs.declared.settings.Setting.TheVariants.{Threads, Limit, Jobs}
+use Rattle.ak_words.specs.declared.settings.Given.{Given}
+use Rattle.ak_words.specs.Words.{greatest, with_setting, none_given, config_of, or_default, IsValue, Continues, Means}
+use Rattle.ak_words.proofs.Places.{goes_behind}
+
+one_config : (given : Given) (words : List (List ℕ)) (c d : Config) → Continues given words c → Continues given words d → c ≡ d
+one_config given [] c d h k = h ∙ sym k
+one_config given (name ∷ []) c d h k = absurd h
+one_config given (name ∷ value ∷ words) c d h k = one_config (with_setting h.0 h.1 given) words c d h.3 (goes_behind given name value words d h.0 h.1 h.2 k)
+
+pub one_command : (words : List (List ℕ)) (c d : Command) → Means words c → Means words d → c ≡ d
+one_command words (Run c) (Run d) h k =
+    let same : h.0 ≡ k.0 = ap (λ ws. drop 1 ws) (sym h.1 ∙ k.1)
+    in ap Run (one_config none_given h.0 c d h.2 (subst (λ ws. Continues none_given ws d) (sym same) k.2))
+one_command words (Run c) Check h k = let e : codes "run" ∷ h.0 ≡ codes "check" ∷ [] = sym h.1 ∙ k in absurd (cc (e))
+one_command words Check (Run d) h k = let e : codes "run" ∷ k.0 ≡ codes "check" ∷ [] = sym k.1 ∙ h in absurd (cc (e))
+one_command words Check Check h k = refl
+
+-- the limit of a cycle
+abbrev HasLimit : Given → Type 0
+HasLimit given = 1 ≤ or_default given.limit 500
+
+keeps_limit : (s : Setting) (n : ℕ) (given : Given) (value : List ℕ) → HasLimit given → IsValue s value n → HasLimit (with_setting s n given)
+keeps_limit Threads n given value h v = h
+keeps_limit Limit n given value h v = v.2
+keeps_limit Jobs n given value h v = h
+
+limit_behind : (given : Given) (words : List (List ℕ)) (c : Config) → HasLimit given → Continues given words c → 1 ≤ c.limit
+limit_behind given [] c l h = subst (λ (x : Config). 1 ≤ x.limit) (sym h) l
+limit_behind given (name ∷ []) c l h = absurd h
+limit_behind given (name ∷ value ∷ words) c l h = limit_behind (with_setting h.0 h.1 given) words c (keeps_limit h.0 h.1 given value l h.2.number) h.3
+
+pub has_limit : (words : List (List ℕ)) (config : Config) → Means words (Run config) → 1 ≤ config.limit
+has_limit words config h = limit_behind none_given h.0 config (omega arith) h.2

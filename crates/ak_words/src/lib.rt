@@ -1,0 +1,5 @@
+//! The words of a command line.
+#![tactic(auto)]
+
+pub mod command;
+mod settings;
