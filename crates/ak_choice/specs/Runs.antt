@@ -1,6 +1,6 @@
 -- Runs of calls of the groups, and how often they decide a group.
-use Rattle.std.specs.Prelude.{ℕ, ℤ, ◌+◌, List, [], ◌∷◌, Bool, true, false, ◌==◌, if◌then◌else◌}
-use Rattle.ak_choice.specs.Groups.{Group, group_in, with_group, with_note, note_taken, with_decided, part_set}
+use Rattle.std.specs.Prelude.{ℕ, ℤ, ◌≡◌, ◌+◌, None, List, [], ◌∷◌, Bool, true, false, ◌==◌, if◌then◌else◌}
+use Rattle.ak_choice.specs.Groups.{Group, group_in, with_group, with_note, note_taken, with_decided, part_in, part_set}
 
 -- a call that changes the groups
 pub data Call : Type 0 where
@@ -40,3 +40,16 @@ decided_by g (SetPart h k v) groups = 0
 abbrev pub decisions : ℕ → List Call → List Group → ℕ
 decisions g [] groups = 0
 decisions g (call ∷ calls) groups = decided_by g call groups + decisions g calls (called call groups)
+
+-- a part gets its number once
+abbrev pub IsAllowed : Call → List Group → Type 0
+IsAllowed (Begin parts) groups = Unit
+IsAllowed (Note g registration) groups = Unit
+IsAllowed (NextNote g) groups = Unit
+IsAllowed (Decide g) groups = Unit
+IsAllowed (SetPart g k v) groups = part_in g k groups ≡ None
+
+-- each call is allowed where it is made
+abbrev pub AreAllowed : List Call → List Group → Type 0
+AreAllowed [] groups = Unit
+AreAllowed (call ∷ calls) groups = IsAllowed call groups × AreAllowed calls (called call groups)

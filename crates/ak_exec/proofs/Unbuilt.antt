@@ -33,16 +33,16 @@ statements_split (q ∷ front) p back = ap (λ ss. q.body ++ ss) (statements_spl
 
 pub unbuilt_in : (procs : List NumProc) (k : ℕ) (p : NumProc) (line : ℕ) → k < length procs → p ≡ get_or procs k p → AreBuilt (take k procs) → FirstUnbuilt p.body line → FirstUnbuilt (statements procs) line
 unbuilt_in procs k p line h e all f = record {
-    before = statements (take k procs) ++ f.before;
-    statement = f.statement;
-    after = f.after ++ statements (drop (k + 1) procs);
-    all_are =
+  before = statements (take k procs) ++ f.before;
+  statement = f.statement;
+  after = f.after ++ statements (drop (k + 1) procs);
+  all_are =
       ap statements (split_at procs k p h e)
       ∙ statements_split (take k procs) p (drop (k + 1) procs)
       ∙ ap (λ b. statements (take k procs) ++ (b ++ statements (drop (k + 1) procs))) f.all_are
       ∙ ap (λ x. statements (take k procs) ++ x) (append_assoc f.before (f.statement ∷ f.after) (statements (drop (k + 1) procs)))
       ∙ sym (append_assoc (statements (take k procs)) f.before (f.statement ∷ (f.after ++ statements (drop (k + 1) procs))));
-    built = all_append IsBuilt (statements (take k procs)) f.before (built_statements (take k procs) all) f.built;
-    unbuilt = f.unbuilt;
-    at = f.at;
-  }
+  built = all_append IsBuilt (statements (take k procs)) f.before (built_statements (take k procs) all) f.built;
+  unbuilt = f.unbuilt;
+  at = f.at;
+}
