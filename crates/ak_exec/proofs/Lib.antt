@@ -1,10 +1,10 @@
 mod Stands
 mod Locals
 mod Values
-mod Fitting
-mod Typed
+pub mod Fitting
+pub mod Typed
 mod Lists
-mod Way
-mod Picks
+pub mod Way
+pub mod Picks
 mod Whole
 mod Unbuilt

@@ -1,0 +1,37 @@
+//! The laws of the trace of a run. Each function has an empty body: its contract is the law.
+
+ghost use Rattle.std.specs.Prelude.{ℕ, ◌≡◌, List};
+ghost use Rattle.ak_labor.specs.Calls.{Reply};
+ghost use Rattle.ak_program.specs.declared.program.NumProc.{NumProc};
+ghost use Rattle.ak_program.specs.Programs.{ProgramIsSound};
+ghost use Rattle.ak_machine.specs.declared.config.Config.{Config};
+ghost use Rattle.ak_machine.specs.Run.{HasEnded, run_of};
+ghost use Rattle.ak_exec.specs.Built.{AreBuilt};
+ghost use Rattle.ak_laws.specs.Ends.{EndsOnce};
+ghost use Rattle.ak_laws.specs.Order.{IsInOrder};
+ghost use Rattle.ak_laws.specs.Fills.{FilledOnce};
+
+/// The trace of every run that has ended has its end once, as the last entry. Own.
+#[tactic(auto, using(crate::proofs::Ends::ends_once))]
+pub fn ends_once()
+    ensures { (program : List NumProc) (main : ℕ) (config : Config) (replies : List Reply)
+        → (run_of program main config replies).outcome ≡ HasEnded → EndsOnce (run_of program main config replies).trace }
+{}
+
+/// The jobs of every run that has ended are numbered from 0 as they are enqueued, and run in order: the front one of its
+/// priority, a low one only where no normal one may run, and at most so many of each priority in a cycle as the settings say.
+/// From Async's scheduler in outline.
+#[tactic(auto, using(crate::proofs::Order::runs_in_order))]
+pub fn runs_in_order()
+    ensures { (program : List NumProc) (main : ℕ) (config : Config) (replies : List Reply)
+        → (run_of program main config replies).outcome ≡ HasEnded
+        → IsInOrder config.limit (run_of program main config replies).trace }
+{}
+
+/// An ivar is filled at most once in every run that has ended, of a program whose statements are built. From Async's
+/// documentation of ivars.
+pub fn filled_once()
+    ensures { (program : List NumProc) (main : ℕ) → ProgramIsSound program main → AreBuilt program
+        → (config : Config) (replies : List Reply) → (run_of program main config replies).outcome ≡ HasEnded
+        → FilledOnce (run_of program main config replies).trace }
+{}

@@ -1,0 +1,4 @@
+//! Laws of a trace, over its entries alone, and that the trace of every run obeys them.
+#![tactic(auto)]
+
+pub mod law;
