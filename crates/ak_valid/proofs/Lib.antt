@@ -1,5 +1,6 @@
 pub mod Binding
 pub mod Exact
+pub mod FirstFault
 pub mod Firsts
 pub mod LeastKinds
 pub mod Lines

@@ -1,4 +1,5 @@
 pub mod Faults
+pub mod FirstFault
 pub mod Firsts
 pub mod Numbered
 pub mod Refusals

@@ -3,6 +3,7 @@ use Rattle.ak_script.specs.declared.script.Proc.{Proc}
 use Rattle.ak_valid.specs.Valid.{Valid}
 use Rattle.ak_valid.specs.Faults.{ValidFault, first_fault, script_lines}
 use Rattle.ak_valid.proofs.Exact.{exact, fault_range}
+use Rattle.ak_valid.proofs.FirstFault.{first_is, is_first}
 use Rattle.ak_valid.proofs.verdict.one_verdict.Goals as goal
 
 verdict_of : (script : List Proc) (fault : Option (ℕ × ℕ)) → first_fault (script_lines script) ≡ fault → Valid script ⊎ ((line : ℕ) × (kind : ℕ) × ValidFault script line kind)
@@ -20,4 +21,6 @@ returns c = record {
   one_fault = λ script line kind other_line other_kind one other.
       let same = some_same (line, kind) (other_line, other_kind) (sym one ∙ other) in
       (ap (λ (fault : ℕ × ℕ). fault.0) same, ap (λ (fault : ℕ × ℕ). fault.1) same);
+  first_and_least = λ script line kind fault. first_is (script_lines script) line kind fault;
+  no_other_is = λ script line kind first. is_first (script_lines script) line kind first;
 }
