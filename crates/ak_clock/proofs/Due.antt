@@ -5,7 +5,8 @@ use Rattle.std.specs.List.{All}
 use Rattle.std.proofs.lemmas.Int.{ints, by_lt_z}
 use Rattle.ak_base.specs.Lists.{first_of, is_empty_list}
 use Rattle.ak_clock.specs.declared.alarm.Alarm.{Alarm}
-use Rattle.ak_clock.specs.Clock.{Clock, is_due, insert_alarm, inserted, by_time, due_alarms, has_due, earlier, earliest_due}
+use Rattle.ak_clock.specs.Clock.{Clock, is_due, insert_alarm, inserted, by_time, due_alarms, has_due}
+use Rattle.ak_clock.specs.Earliest.{earlier, earliest_due}
 use Rattle.ak_clock.specs.Order.{AreNumbered, IsBefore, AreByTime}
 use Rattle.ak_clock.proofs.Numbered.{lowered}
 

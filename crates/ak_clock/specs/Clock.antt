@@ -122,12 +122,3 @@ ticked n time = if int_lt n (pos 0) then Err tick_refused.Negative else if fits 
 abbrev pub ivar_of : Option Alarm → Option ℕ
 ivar_of None = None
 ivar_of (Some alarm) = Some alarm.ivar
-
--- the earlier of two alarms; of equal times the first
-abbrev pub earlier : Option Alarm → Alarm → Option Alarm
-earlier None a = Some a
-earlier (Some b) a = if int_lt a.time b.time then Some a else Some b
-
--- the earliest of the alarms so far whose time has come, and one more
-abbrev pub earliest_due : ℤ → Option Alarm → Alarm → Option Alarm
-earliest_due now best a = if is_due now a then earlier best a else best

@@ -1,3 +1,4 @@
 pub mod Clock
+pub mod Earliest
 pub mod Order
 pub mod Story

@@ -3,6 +3,7 @@
 ghost use Rattle.std.specs.Prelude.{ℤ, ◌≡◌, ◌+◌, ◌-◌, ◌<◌, ◌≤ℤ◌, ◌+ℤ◌, ◌^◌, pos, false, None, Err, OnOk, OnErr, IfOk, IfErr, MatchOption, length, slice_get, find};
 ghost use Rattle.ak_base.specs.Lists.{first_of};
 ghost use Rattle.ak_clock.specs.Clock as plain;
+ghost use Rattle.ak_clock.specs.Earliest.{earlier as earlier_of, earliest_due as earliest_of};
 ghost use Rattle.ak_clock.specs.Order.{AreByTime};
 
 use crate::alarm::{AfterRefused, Alarm, TickRefused};
@@ -208,7 +209,7 @@ impl Clock {
 
 // The earliest alarm so far that is due, and one more.
 fn earliest_due(now: Num, first: Option<Alarm>, alarm: Alarm) -> Option<Alarm>
-    ensures { result ≡ plain.earliest_due now first alarm }
+    ensures { result ≡ earliest_of now first alarm }
 {
     if alarm.time <= now {
         earlier(first, alarm)
@@ -219,7 +220,7 @@ fn earliest_due(now: Num, first: Option<Alarm>, alarm: Alarm) -> Option<Alarm>
 
 // The earlier of two alarms; of equal times the first.
 fn earlier(first: Option<Alarm>, alarm: Alarm) -> Option<Alarm>
-    ensures { result ≡ plain.earlier first alarm }
+    ensures { result ≡ earlier_of first alarm }
 {
     match first {
         Some(best) if alarm.time >= best.time => Some(best),

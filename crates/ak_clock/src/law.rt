@@ -1,13 +1,21 @@
 //! Laws of the clock. Each function has an empty body: its contract is the law.
 
-ghost use Rattle.std.specs.Prelude.{ℕ, ◌≡◌, List, None};
-ghost use Rattle.ak_clock.specs.Clock.{Clock, due_alarms, alarm_of, without_alarm};
+ghost use Rattle.std.specs.Prelude.{ℕ, ◌≡◌, Bool, List, None, filter};
+ghost use Rattle.std.specs.List.{count_by};
+ghost use Rattle.ak_clock.specs.declared.alarm.Alarm.{Alarm};
+ghost use Rattle.ak_clock.specs.Clock.{Clock, is_due, due_alarms, alarm_of, without_alarm};
 ghost use Rattle.ak_clock.specs.Order.{AreNumbered, AreByTime};
 
 /// The alarms that are due come in order of time, and of number where the times are equal.
 #[tactic(auto, using(crate::proofs::Due::due_in_order))]
 pub fn due_alarms_come_in_order()
     ensures { (c : Clock) (low high : ℕ) → AreNumbered low high c.alarms → AreByTime (due_alarms c) }
+{}
+
+/// The alarms that are due are those pending ones whose time has come, each as often: as many of them pass any test.
+#[tactic(auto, using(crate::proofs::Same::same_alarms))]
+pub fn due_alarms_are_those_whose_time_has_come()
+    ensures { (p : Alarm → Bool) (c : Clock) → count_by p (due_alarms c) ≡ count_by p (filter (is_due c.time) c.alarms) }
 {}
 
 /// Where no alarm of a number is pending, an abort changes nothing.

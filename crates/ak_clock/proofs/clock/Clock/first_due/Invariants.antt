@@ -1,6 +1,6 @@
 use Rattle.std.proofs.Common.{◌≡◌, take}
 use Rattle.std.specs.Prelude.{fold, None}
-use Rattle.ak_clock.specs.Clock.{earliest_due}
+use Rattle.ak_clock.specs.Earliest.{earliest_due}
 use Rattle.ak_clock.proofs.clock.Clock.first_due.Given as goal
 
 -- the earliest so far
