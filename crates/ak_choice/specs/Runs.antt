@@ -1,5 +1,5 @@
--- Runs of calls of the groups, and how often they decide a group.
-use Rattle.std.specs.Prelude.{ℕ, ℤ, ◌≡◌, ◌+◌, None, List, [], ◌∷◌, Bool, true, false, ◌==◌, if◌then◌else◌}
+-- Runs of calls of the groups: how often they decide a group, and what they note for it and take. Own.
+use Rattle.std.specs.Prelude.{ℕ, ℤ, ◌≡◌, ◌+◌, ◌<◌, None, List, [], ◌∷◌, ◌++◌, Bool, true, false, ◌==◌, length, take, if◌then◌else◌}
 use Rattle.ak_choice.specs.Groups.{Group, group_in, with_group, with_note, note_taken, with_decided, part_in, part_set}
 
 -- a call that changes the groups
@@ -53,3 +53,42 @@ IsAllowed (SetPart g k v) groups = part_in g k groups ≡ None
 abbrev pub AreAllowed : List Call → List Group → Type 0
 AreAllowed [] groups = Unit
 AreAllowed (call ∷ calls) groups = IsAllowed call groups × AreAllowed calls (called call groups)
+
+-- a call names a group that exists
+abbrev pub IsOfGroup : Call → List Group → Type 0
+IsOfGroup (Begin parts) groups = Unit
+IsOfGroup (Note g registration) groups = g < length groups
+IsOfGroup (NextNote g) groups = g < length groups
+IsOfGroup (Decide g) groups = g < length groups
+IsOfGroup (SetPart g k v) groups = g < length groups
+
+-- each call names a group that exists where it is made
+abbrev pub AreOfGroups : List Call → List Group → Type 0
+AreOfGroups [] groups = Unit
+AreOfGroups (call ∷ calls) groups = IsOfGroup call groups × AreOfGroups calls (called call groups)
+
+-- the registration that a call notes for a group
+abbrev pub noted_by : ℕ → Call → List ℕ
+noted_by g (Begin parts) = []
+noted_by g (Note h registration) = if h == g then registration ∷ [] else []
+noted_by g (NextNote h) = []
+noted_by g (Decide h) = []
+noted_by g (SetPart h k v) = []
+
+-- the registrations that calls note for a group, in order
+abbrev pub noted : ℕ → List Call → List ℕ
+noted g [] = []
+noted g (call ∷ calls) = noted_by g call ++ noted g calls
+
+-- the registration that a call takes from a group, where one is left
+abbrev pub taken_by : ℕ → Call → List Group → List ℕ
+taken_by g (Begin parts) groups = []
+taken_by g (Note h registration) groups = []
+taken_by g (NextNote h) groups = if h == g then take 1 (group_in groups g).notes else []
+taken_by g (Decide h) groups = []
+taken_by g (SetPart h k v) groups = []
+
+-- the registrations that calls take from a group, in order
+abbrev pub taken : ℕ → List Call → List Group → List ℕ
+taken g [] groups = []
+taken g (call ∷ calls) groups = taken_by g call groups ++ taken g calls (called call groups)

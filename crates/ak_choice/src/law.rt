@@ -1,8 +1,8 @@
 //! Laws of groups. Each function has an empty body: its contract is the law.
 
-ghost use Rattle.std.specs.Prelude.{ℕ, ℤ, ◌≡◌, ◌≤◌, List, Some};
-ghost use Rattle.ak_choice.specs.Groups.{Group, part_in};
-ghost use Rattle.ak_choice.specs.Runs.{Call, AreAllowed, after, decisions};
+ghost use Rattle.std.specs.Prelude.{ℕ, ℤ, ◌≡◌, ◌≤◌, ◌++◌, List, Some};
+ghost use Rattle.ak_choice.specs.Groups.{Group, group_in, part_in};
+ghost use Rattle.ak_choice.specs.Runs.{Call, AreAllowed, AreOfGroups, after, decisions, noted, taken};
 
 /// Whatever is called, a group is decided at most once: so at most one choice of it runs.
 #[tactic(auto, using(crate::proofs::Decided::once))]
@@ -15,4 +15,12 @@ pub fn group_is_decided_at_most_once()
 pub fn part_keeps_its_number()
     ensures { (g k : ℕ) (v : ℤ) (calls : List Call) (groups : List Group) → AreAllowed calls groups
         → part_in g k groups ≡ Some v → part_in g k (after calls groups) ≡ Some v }
+{}
+
+/// Whatever is called, no registration that was noted for a group is lost, and none is taken twice: those that were taken,
+/// and then those that are left, are those that stood there and then those that were noted, in order.
+#[tactic(auto, using(crate::proofs::Notes::kept))]
+pub fn group_keeps_its_notes()
+    ensures { (g : ℕ) (calls : List Call) (groups : List Group) → AreOfGroups calls groups
+        → taken g calls groups ++ (group_in (after calls groups) g).notes ≡ (group_in groups g).notes ++ noted g calls }
 {}
