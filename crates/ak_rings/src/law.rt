@@ -4,8 +4,8 @@ ghost use Rattle.std.specs.Prelude.{ℕ, ◌≡◌, ◌<◌, ◌++◌, List, Boo
 ghost use Rattle.ak_rings.specs.Queues.{Queues, no_jobs, has_pick, recounted, has_no_job};
 ghost use Rattle.ak_rings.specs.Runs.{Call, after, waiting, pushes, picks};
 
-/// Whatever is called, the picks of a priority are its pushes in order, but for those that wait still. The frames may
-/// be of any type `F`.
+/// No job is lost, doubled or overtaken by one of the same priority, whatever is called: those that were picked, with those
+/// that still wait behind them, are those that were pushed. The frames may be of any type `F`.
 #[tactic(auto, using(crate::proofs::Order::pushes_in_order))]
 pub fn picks_are_pushes_in_order<F>()
     ensures { (low : Bool) (limit : ℕ) (calls : List (Call F))
