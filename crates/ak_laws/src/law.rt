@@ -9,7 +9,7 @@ ghost use Rattle.ak_machine.specs.Run.{HasEnded, run_of};
 ghost use Rattle.ak_exec.specs.Built.{AreBuilt};
 ghost use Rattle.ak_laws.specs.Ends.{EndsOnce};
 ghost use Rattle.ak_laws.specs.Order.{IsInOrder};
-ghost use Rattle.ak_laws.specs.Fills.{FilledOnce};
+ghost use Rattle.ak_laws.specs.Fills.{FilledOnce, GoneOnceJoined, UnjoinedOnceFilled};
 
 /// The trace of every run that has ended has its end once, as the last entry. Own.
 #[tactic(auto, using(crate::proofs::Ends::ends_once))]
@@ -34,4 +34,20 @@ pub fn filled_once()
     ensures { (program : List NumProc) (main : ℕ) → ProgramIsSound program main → AreBuilt program
         → (config : Config) (replies : List Reply) → (run_of program main config replies).outcome ≡ HasEnded
         → FilledOnce (run_of program main config replies).trace }
+{}
+
+/// In every run that has ended, of a program whose statements are built, an ivar that was filled takes part in no later join.
+/// Own.
+pub fn filled_is_not_joined()
+    ensures { (program : List NumProc) (main : ℕ) → ProgramIsSound program main → AreBuilt program
+        → (config : Config) (replies : List Reply) → (run_of program main config replies).outcome ≡ HasEnded
+        → UnjoinedOnceFilled (run_of program main config replies).trace }
+{}
+
+/// In every run that has ended, of a program whose statements are built, the name that a join takes away stands in no later
+/// fill and in no later join. Own.
+pub fn joined_name_is_gone()
+    ensures { (program : List NumProc) (main : ℕ) → ProgramIsSound program main → AreBuilt program
+        → (config : Config) (replies : List Reply) → (run_of program main config replies).outcome ≡ HasEnded
+        → GoneOnceJoined (run_of program main config replies).trace }
 {}
