@@ -1,0 +1,6 @@
+//! Rows: the lines of traces and histories, read word by word.
+#![tactic(auto)]
+
+pub mod line;
+pub mod row;
+pub mod word;
