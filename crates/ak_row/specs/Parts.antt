@@ -1,10 +1,10 @@
 -- How a reader takes the words of a row, one after the other: each part gives what it finds and the words that are
 -- left, or nothing. The laws of `proofs/Parts` connect these with the places.
-use Rattle.std.specs.Prelude.{◌≡◌, ℕ, ◌-◌, ◌<◌, ◌^◌, Bool, ◌&&◌, nat_le, nat_lt, Option, Some, None, List, [], ◌∷◌, length, ℤ, pos, negsuc, codes, if◌then◌else◌}
+use Rattle.std.specs.Prelude.{◌≡◌, ℕ, ◌-◌, ◌^◌, Bool, ◌&&◌, nat_le, nat_lt, Option, Some, None, List, [], ◌∷◌, length, ℤ, pos, negsuc, codes, if◌then◌else◌}
 use Rattle.std.specs.List.{list_all, find}
 use Rattle.std.specs.Str.{bytes_eq}
 use Rattle.ak_text.specs.Lines.{TextLine, words_of, has_bad_byte}
-use Rattle.ak_text.specs.Numbers.{has_minus, is_digit, without_minus, digits_value, signed_value}
+use Rattle.ak_text.specs.Numbers.{is_digit, without_minus, signed_value}
 use Rattle.ak_labor.specs.declared.work.WorkKind.{WorkKind}
 use Rattle.ak_labor.specs.declared.work.WorkKind.TheVariants.{Square, Mix, Fail}
 use Rattle.ak_print.specs.Work.{kind_word}
@@ -105,6 +105,10 @@ unfoldable pub outcome_at : Part Outcome
 outcome_at words = word_at words >>= λ w. outcome_from w.0 w.1
 
 -- ---- lines
+-- a part and the end behind it
+abbrev pub whole : {T : Type 0} → Part T → List (List ℕ) → Option T
+whole part words = part words >>= λ a. end_at a.1 >>= λ u. Some a.0
+
 -- the words of a line, where none of its bytes is bad
 unfoldable pub row_words : TextLine → Option (List (List ℕ))
 row_words line = if has_bad_byte line.text then None else Some (words_of line.text)

@@ -1,9 +1,11 @@
 -- Rows: lines of a written text, word by word.
-use Rattle.std.specs.Prelude.{◌≡◌, ℕ, ◌<◌, ◌≤◌, ◌^◌, Bool, false, not, ◌||◌, ◌==◌, List, filter, length, ℤ, pos, FitsSigned}
+use Rattle.std.specs.Prelude.{◌≡◌, ℕ, ◌<◌, ◌≤◌, ◌^◌, Bool, false, not, ◌||◌, ◌==◌, List, [], ◌∷◌, filter, length, ℤ, pos, FitsSigned, codes}
 use Rattle.std.specs.Int.{w64}
 use Rattle.std.specs.List.{AllZip}
 use Rattle.ak_text.specs.Lines.{TextLine, text_lines, words_of, has_bad_byte}
 use Rattle.ak_text.specs.Numbers.{Writes}
+use Rattle.ak_labor.specs.declared.work.Outcome.{Outcome}
+use Rattle.ak_labor.specs.declared.work.Outcome.TheVariants.{Good, Bad}
 
 -- what one word of a row stands for
 pub data Place : Type 0 where
@@ -30,6 +32,11 @@ Stands (Counted number) word = (1 ≤ number) × (number ≤ 1000000) × Writes 
 pub record IsRow (places : List Place) (line : TextLine) : Type 0 where
   pub good : has_bad_byte line.text ≡ false
   pub words : AllZip Stands places (words_of line.text)
+
+-- the words of an outcome
+abbrev pub outcome_places : Outcome → List Place
+outcome_places (Good number) = Exactly (codes "good") ∷ Signed number ∷ []
+outcome_places (Bad number) = Exactly (codes "bad") ∷ Signed number ∷ []
 
 -- whether a line isn't skipped: a good line without words is
 abbrev pub counts : TextLine → Bool

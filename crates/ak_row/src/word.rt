@@ -11,10 +11,12 @@ use ak_text::read::{read_num, read_u64};
 const MAX_COUNT: u32 = 1_000_000;
 
 /// The number of a thing.
+#[tactic(auto, using(crate::proofs::Numbers::thing_by_job))]
 pub fn thing(word: &[u8]) -> Option<u32>
     ensures { result ≡ thing_of word.now }
 {
-    u32::try_from(read_u64(word)?).ok()
+    let number = job(word)?;
+    u32::try_from(number).ok()
 }
 
 /// The number of a job.
@@ -25,6 +27,7 @@ pub fn job(word: &[u8]) -> Option<u64>
 }
 
 /// How many times: one to a million.
+#[tactic(auto, using(crate::proofs::Numbers::count_by_thing))]
 pub fn count(word: &[u8]) -> Option<u32>
     ensures { result ≡ count_of word.now }
 {
