@@ -151,9 +151,13 @@ kind_there Square = refl
 kind_there Mix = refl
 kind_there Fail = refl
 
+pub kind_item : IsItem (λ kind. Exactly (kind_word kind)) kind_of
+unfolding kind_of
+kind_item = table_item kind_word all_kinds kind_there
+
 pub kind_part : IsPart (λ kind. Exactly (kind_word kind) ∷ []) kind_at
-unfolding kind_at kind_of
-kind_part = item_part (λ kind. Exactly (kind_word kind)) kind_of (table_item kind_word all_kinds kind_there)
+unfolding kind_at
+kind_part = item_part (λ kind. Exactly (kind_word kind)) kind_of kind_item
 
 -- the case of a test
 pub chosen : {A : Type 0} (b : Bool) (x y z : A) → cond b x y ≡ z → ((b ≡ true) × (x ≡ z)) ⊎ ((b ≡ false) × (y ≡ z))
