@@ -8,7 +8,9 @@ use Rattle.ak_base.proofs.Passing.{Toward, toward-start, toward-then, toward-fau
 use Rattle.ak_print.specs.Line.{line_text}
 use Rattle.ak_history.specs.declared.event.Event.{Event}
 use Rattle.ak_history.specs.declared.event.Event.TheVariants as event
-use Rattle.ak_history.specs.Text.{HistoryLine, Idle, Of, with_event, history_lines, event_text, idle_text, history_line_text, history_text, id_text}
+use Rattle.ak_history.specs.declared.line.HistoryLine.{HistoryLine}
+use Rattle.ak_history.specs.declared.line.HistoryLine.TheVariants.{Idle, Of}
+use Rattle.ak_history.specs.Text.{with_event, history_lines, event_text, idle_text, history_line_text, history_text, id_text}
 
 -- an empty drain
 abbrev pub idle : Event

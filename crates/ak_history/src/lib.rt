@@ -2,4 +2,7 @@
 #![tactic(auto)]
 
 pub mod event;
+mod form;
+pub mod line;
+pub mod reading;
 pub mod text;
