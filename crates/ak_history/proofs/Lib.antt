@@ -5,3 +5,4 @@ pub mod Readings
 pub mod Rows
 pub mod Things
 pub mod Walks
+pub mod Written

@@ -1,16 +1,14 @@
 -- What the reader makes of a text is the history that it is, or its first bad line.
-use Rattle.std.proofs.Common.{◌≡◌, ℕ, ◌+◌, ◌≤◌, Bool, true, false, cond, Option, Some, None, Result, Ok, Err, List, [], ◌∷◌, ◌++◌, length, refl, sym, ap, ◌∙◌, subst, arith}
+use Rattle.std.proofs.Common.{◌≡◌, ℕ, ◌≤◌, Result, Ok, Err, List, [], ◌∷◌, length, refl, sym, ap, ◌∙◌, subst, ◌⊎◌, inl, inr, arith}
 use Rattle.std.proofs.lemmas.List.{append-nil}
-use Rattle.std.specs.List.{before_first}
-use Rattle.ak_text.specs.Lines.{TextLine, numbered, lines_of, begins_comment}
-use Rattle.ak_row.specs.Places.{counts}
+use Rattle.ak_text.specs.Lines.{numbered, lines_of}
 use Rattle.ak_history.specs.declared.event.Event.{Event}
 use Rattle.ak_history.specs.declared.reading.Recorded.{Recorded}
-use Rattle.ak_history.specs.declared.reading.HistoryRefused.{HistoryRefused}
-use Rattle.ak_history.specs.declared.reading.HistoryRefused.TheVariants.{BadLine, NoMemory}
+use Rattle.ak_history.specs.declared.refusal.HistoryRefused.{HistoryRefused}
+use Rattle.ak_history.specs.declared.refusal.HistoryRefused.TheVariants.{BadLine, NoMemory}
 use Rattle.ak_history.specs.Answers.{IsRight, IsHistory, IsBadLine}
 use Rattle.ak_history.specs.Reading.{HistoryReads, IsFirstBad, lines_from, rows_events, rows_numbers, most_events}
-use Rattle.ak_history.specs.Taking.{Takes, Tells, line_taken, walked, walked_next, nothing_read}
+use Rattle.ak_history.specs.Taking.{Tells, walked, nothing_read}
 use Rattle.ak_history.proofs.Walks.{with_lines, walk, walked_walk, walk_ok, walk_err, walk_rows, walk_bad}
 
 -- what the reader makes of all lines
@@ -90,6 +88,13 @@ one_bad_line bytes first l m h k = err_is (sym (bad_found bytes first l h) ∙ b
 
 pub never_both : (bytes : List ℕ) (first : ℕ) (events : List Event) (lines : List ℕ) (number : ℕ) → HistoryReads bytes first events lines → IsFirstBad bytes first number → ⊥
 never_both bytes first events lines number h k = mixed_up (recorded events lines) number (sym (reads_found bytes first events lines h) ∙ bad_found bytes first number k)
+
+pub either : (bytes : List ℕ) (first : ℕ) → ((events : List Event) × (lines : List ℕ) × HistoryReads bytes first events lines) ⊎ ((number : ℕ) × IsFirstBad bytes first number)
+either bytes first = of (found bytes first) refl
+  where
+    of : (r : Result Recorded ℕ) → found bytes first ≡ r → ((events : List Event) × (lines : List ℕ) × HistoryReads bytes first events lines) ⊎ ((number : ℕ) × IsFirstBad bytes first number)
+    of (Ok r) e = inl (r.history, r.lines, found_reads bytes first r e)
+    of (Err number) e = inr (number, found_bad bytes first number e)
 
 -- ---- answers
 pub tells_right : (bytes : List ℕ) (first : ℕ) (answer : Result Recorded HistoryRefused) → Tells answer (found bytes first) → IsRight bytes first answer

@@ -1,15 +1,15 @@
 -- The words of a line are those of the row of what is found in them, and the words of a row give its line.
-use Rattle.std.proofs.Common.{◌≡◌, ℕ, ◌≤◌, Bool, true, false, Option, Some, None, List, [], ◌∷◌, ◌++◌, map, length, ℤ, refl, sym, ap, ◌∙◌, subst, cond, ◌⊎◌, inl, inr, arith}
+use Rattle.std.proofs.Common.{◌≡◌, ℕ, ◌≤◌, true, false, Option, Some, None, List, [], ◌∷◌, ◌++◌, map, length, ℤ, refl, sym, ap, ◌∙◌, subst, cond, ◌⊎◌, inl, inr, arith}
 use Rattle.std.proofs.lemmas.Slice.Eq.{bytes_eq-Decides}
 use Rattle.std.specs.Prelude.{codes}
-use Rattle.std.specs.List.{AllZip, find}
+use Rattle.std.specs.List.{AllZip}
 use Rattle.std.specs.Str.{bytes_eq}
 use Rattle.ak_labor.specs.declared.work.Work.{Work}
 use Rattle.ak_labor.specs.declared.work.WorkKind.{WorkKind}
 use Rattle.ak_labor.specs.declared.work.Outcome.{Outcome}
 use Rattle.ak_print.specs.Work.{kind_word}
 use Rattle.ak_row.specs.Places.{Place, Exactly, Thing, Signed, Counted, Stands, outcome_places}
-use Rattle.ak_row.specs.Parts.{Part, ◌>>=◌, both, mapped, word_at, end_at, thing_of, thing_at, count_at, signed_at, kind_at, outcome_at, whole}
+use Rattle.ak_row.specs.Parts.{Part, ◌>>=◌, both, mapped, thing_of, thing_at, count_at, outcome_at, whole}
 use Rattle.ak_row.proofs.Numbers.{thing_reads, thing_some}
 use Rattle.ak_row.proofs.Parts.{IsPart, some_is, some_pair, bind_some, bind_is, both_part, image, mapped_sound, mapped_complete, chosen_part, table_reads, thing_part, count_part, signed_part, kind_part, outcome_part, whole_sound, whole_complete}
 use Rattle.ak_history.specs.declared.event.Event.{Event}

@@ -2,9 +2,9 @@
 -- bad one among them.
 use Rattle.std.proofs.Common.{◌≡◌, ℕ, zero, suc, ◌+◌, ◌<◌, ◌≤◌, Bool, true, false, nat_le, cond, Option, Some, None, Result, Ok, Err, List, [], ◌∷◌, ◌++◌, length, filter, replicate, refl, sym, ap, ◌∙◌, subst, arith, append_assoc, length-append}
 use Rattle.std.proofs.lemmas.List.{append-nil}
-use Rattle.std.specs.List.{AllZip, flat_map, zip}
+use Rattle.std.specs.List.{AllZip}
 use Rattle.ak_text.specs.Lines.{TextLine, words_of, has_bad_byte}
-use Rattle.ak_row.specs.Places.{IsRow, Stands, counts}
+use Rattle.ak_row.specs.Places.{Stands, counts}
 use Rattle.ak_row.specs.Parts.{◌>>=◌, row_words}
 use Rattle.ak_row.proofs.Parts.{some_is, bind_some, bind_is}
 use Rattle.ak_history.specs.declared.event.Event.{Event}
@@ -14,7 +14,7 @@ use Rattle.ak_history.specs.declared.line.HistoryLine.TheVariants.{Idle, Of}
 use Rattle.ak_history.specs.declared.reading.Recorded.{Recorded}
 use Rattle.ak_history.specs.Reading.{line_row, IsHistoryLine, line_events, rows_events, rows_numbers, most_events, IsBadBehind}
 use Rattle.ak_history.specs.Taking.{count_of_events, with_line, line_added, line_of, line_found, line_taken, walked_next, walked}
-use Rattle.ak_history.proofs.Rows.{IsLineOf, line_sound, line_complete}
+use Rattle.ak_history.proofs.Rows.{line_sound, line_complete}
 
 -- ---- one line
 words_found : (b : Bool) (words words_are : List (List ℕ)) → cond b None (Some words_are) ≡ Some words → (b ≡ false) × (words_are ≡ words)

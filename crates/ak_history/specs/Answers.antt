@@ -2,8 +2,8 @@
 use Rattle.std.specs.Prelude.{◌≡◌, ℕ, Result, Ok, Err, List}
 use Rattle.ak_history.specs.declared.event.Event.{Event}
 use Rattle.ak_history.specs.declared.reading.Recorded.{Recorded}
-use Rattle.ak_history.specs.declared.reading.HistoryRefused.{HistoryRefused}
-use Rattle.ak_history.specs.declared.reading.HistoryRefused.TheVariants.{BadLine, NoMemory}
+use Rattle.ak_history.specs.declared.refusal.HistoryRefused.{HistoryRefused}
+use Rattle.ak_history.specs.declared.refusal.HistoryRefused.TheVariants.{BadLine, NoMemory}
 use Rattle.ak_history.specs.Reading.{HistoryReads, IsFirstBad}
 
 -- the answer is right: the history that the text is, or its first bad line

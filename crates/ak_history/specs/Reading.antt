@@ -1,14 +1,16 @@
 -- A text as it is read: which history it is, and its first bad line. It takes more spellings than the writer makes:
 -- lines and words as in scripts, numbers with leading zeros, and runs of empty drains in more lines than one.
 use Rattle.std.specs.Prelude.{◌≡◌, ℕ, ◌+◌, ◌<◌, ◌≤◌, Option, Some, None, List, [], ◌∷◌, ◌++◌, map, filter, flat_map, length, replicate, codes}
-use Rattle.std.specs.List.{AllZip, zip}
+use Rattle.std.specs.List.{AllZip, AllByRecursion, zip}
 use Rattle.ak_text.specs.Lines.{TextLine, numbered, lines_of}
 use Rattle.ak_print.specs.Work.{kind_word}
 use Rattle.ak_row.specs.Places.{Place, Exactly, Thing, Signed, Counted, IsRow, counts, outcome_places}
+use Rattle.ak_row.specs.Plain.{IsPlain}
 use Rattle.ak_history.specs.declared.event.Event.{Event}
 use Rattle.ak_history.specs.declared.event.Event.TheVariants as event
 use Rattle.ak_history.specs.declared.line.HistoryLine.{HistoryLine}
 use Rattle.ak_history.specs.declared.line.HistoryLine.TheVariants.{Idle, Of}
+use Rattle.ak_history.specs.Text.{history_lines}
 
 -- for whom a work is, in front of the work
 abbrev pub submit_places : Option ℕ → List Place → List Place
@@ -91,3 +93,19 @@ pub record IsFirstBad (bytes : List ℕ) (first : ℕ) (number : ℕ) : Type 0 w
   pub few : length (rows_events rows) ≤ most_events
   pub bad : IsBadBehind (length (rows_events rows)) line
   pub number_is : number ≡ line.number
+
+-- ---- what is read back
+-- numbers of things are below 2 ^ 32, and other numbers are of 64 bits with a sign
+abbrev pub IsInRange : Event → Type 0
+IsInRange e = AllByRecursion IsPlain (event_row e)
+
+-- a run of at most 1,000,000 empty drains
+abbrev pub IsShortRun : HistoryLine → Type 0
+IsShortRun (Idle n) = n ≤ 1000000
+IsShortRun (Of e) = Unit {0}
+
+-- the numbers lie in their ranges, no run of empty drains is longer than 1,000,000, and the events are not too many
+pub record IsReadable (events : List Event) : Type 0 where
+  pub in_range : AllByRecursion IsInRange events
+  pub short_runs : AllByRecursion IsShortRun (history_lines events)
+  pub few : length events ≤ most_events

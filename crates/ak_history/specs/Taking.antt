@@ -3,7 +3,7 @@
 use Rattle.std.specs.Prelude.{◌≡◌, ℕ, ◌+◌, nat_le, if◌then◌else◌, Option, Some, None, Result, Ok, Err, List, [], ◌∷◌, ◌++◌, length, replicate, codes}
 use Rattle.std.specs.List.{find}
 use Rattle.std.specs.Str.{bytes_eq}
-use Rattle.ak_text.specs.Lines.{TextLine, words_of, has_bad_byte}
+use Rattle.ak_text.specs.Lines.{TextLine}
 use Rattle.ak_labor.specs.declared.work.Work.{Work}
 use Rattle.ak_row.specs.Places.{counts}
 use Rattle.ak_row.specs.Parts.{◌>>=◌, Part, both, mapped, word_at, end_at, thing_of, thing_at, count_at, signed_at, kind_at, outcome_at, whole, row_words}
@@ -14,8 +14,8 @@ use Rattle.ak_history.specs.declared.line.HistoryLine.TheVariants.{Idle, Of}
 use Rattle.ak_history.specs.declared.line.FirstWord.{FirstWord}
 use Rattle.ak_history.specs.declared.line.FirstWord.TheVariants as first
 use Rattle.ak_history.specs.declared.reading.Recorded.{Recorded}
-use Rattle.ak_history.specs.declared.reading.HistoryRefused.{HistoryRefused}
-use Rattle.ak_history.specs.declared.reading.HistoryRefused.TheVariants.{BadLine, NoMemory}
+use Rattle.ak_history.specs.declared.refusal.HistoryRefused.{HistoryRefused}
+use Rattle.ak_history.specs.declared.refusal.HistoryRefused.TheVariants.{BadLine, NoMemory}
 use Rattle.ak_history.specs.Reading.{line_events, most_events}
 
 -- ---- the words of a line

@@ -3,6 +3,10 @@
 
 pub mod event;
 mod form;
+pub mod laws;
 pub mod line;
 pub mod reading;
+pub mod refusal;
+#[cfg(test)]
+mod tests;
 pub mod text;

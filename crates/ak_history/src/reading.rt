@@ -10,12 +10,13 @@ ghost use Rattle.ak_text.specs.Lines.{numbered, lines_of};
 use crate::event::{Event, History};
 use crate::form;
 use crate::line::HistoryLine;
+use crate::refusal::HistoryRefused;
 use ak_base::list::{Items, NoMemory};
 use ak_row::line::counts;
 use ak_row::row::Row;
 use ak_text::line::Line;
 use ak_text::text::lines;
-use std::alloc::{AllocError, Global};
+use std::alloc::Global;
 
 /// The most events of a text.
 const MAX_EVENTS: usize = 16_000_000;
@@ -28,26 +29,6 @@ pub type LineNos = Items<u32>;
 pub struct Recorded {
     pub history: History,
     pub lines: LineNos,
-}
-
-/// Why a text is no history.
-#[derive(Clone, Copy, PartialEq, Eq, Debug)]
-pub enum HistoryRefused {
-    /// The first line that is none of a history, or whose events make their number more than 16,000,000.
-    BadLine { line: u32 },
-    /// There was no memory.
-    NoMemory,
-}
-
-impl From<AllocError> for HistoryRefused {
-    ghost use Rattle.std.specs.Prelude.{◌≡◌};
-    ghost use Rattle.ak_history.specs.declared.reading.HistoryRefused.TheVariants.{NoMemory};
-
-    ghost from_gives = { λ _ e. e ≡ NoMemory };
-
-    fn from(_error: AllocError) -> HistoryRefused {
-        HistoryRefused::NoMemory
-    }
 }
 
 /// The history that the bytes are, with the line of each event, where the first line of the bytes has the number

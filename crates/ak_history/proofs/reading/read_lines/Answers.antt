@@ -1,9 +1,8 @@
-use Rattle.std.proofs.Common.{◌≡◌, ◌+◌, ◌≤◌, Ok, Err, true, List, length, refl, sym, subst, ◌∙◌}
+use Rattle.std.proofs.Common.{◌≡◌, ◌+◌, List, length, refl, sym, subst, ◌∙◌}
 use Rattle.std.proofs.lemmas.Result.{err_from_is_err_and}
 use Rattle.ak_text.specs.Lines.{TextLine, text_lines, numbered, lines_of}
-use Rattle.ak_row.specs.Places.{counts}
-use Rattle.ak_history.specs.Taking.{Tells, walked, nothing_read, line_taken}
-use Rattle.ak_history.proofs.Going.{IsOn, starts, goes_past, goes_on, stops, ends, small}
+use Rattle.ak_history.specs.Taking.{walked, nothing_read}
+use Rattle.ak_history.proofs.Going.{IsOn, starts, goes_past, goes_on, stops, ends}
 use Rattle.ak_history.proofs.reading.read_lines.Goals as goal
 use Rattle.ak_history.proofs.reading.read_lines.Goals.{then-counts+in_ok-take, else-counts}
 
