@@ -1,5 +1,5 @@
 -- Lines that fit things one for one, and the first bad line.
-use Rattle.std.proofs.Common.{◌≡◌, ℕ, true, false, List, [], ◌∷◌, ◌++◌, map, refl, sym, ap, ◌∙◌, subst, append_assoc}
+use Rattle.std.proofs.Common.{◌≡◌, ℕ, true, false, List, [], ◌∷◌, ◌++◌, map, refl, sym, ap, ◌∙◌, subst, append_assoc, ◌⊎◌, inl, inr}
 use Rattle.std.specs.List.{AllZip, filter}
 use Rattle.ak_text.specs.Lines.{TextLine}
 use Rattle.ak_row.specs.Faults.{IsFirstBad}
@@ -123,3 +123,41 @@ read_bad Fits xs left rest all line r is h bad = record {
   bad = bad;
   at = refl;
 }
+
+-- ---- one or the other
+abbrev IsReadable : {A : Type 0} → (A → TextLine → Type 0) → List TextLine → Type 0
+IsReadable {A} Fits lines = ((xs : List A) × AllZip Fits xs lines) ⊎ ((number : ℕ) × IsFirstBad Fits lines number)
+
+-- where each line fits something or nothing, all lines fit a list, or there is a first bad one
+pub read_or_bad : {A : Type 0} (Fits : A → TextLine → Type 0) → ((line : TextLine) → ((x : A) × Fits x line) ⊎ ((x : A) → Fits x line → ⊥)) → (lines : List TextLine) → ((xs : List A) × AllZip Fits xs lines) ⊎ ((number : ℕ) × IsFirstBad Fits lines number)
+read_or_bad Fits decide [] = inl ([], tt)
+read_or_bad {A} Fits decide (line ∷ lines) = of (decide line) (read_or_bad Fits decide lines)
+  where
+    of : ((x : A) × Fits x line) ⊎ ((x : A) → Fits x line → ⊥) → IsReadable Fits lines → IsReadable Fits (line ∷ lines)
+    of (inl x) (inl xs) = inl (x.0 ∷ xs.0, (x.1, xs.1))
+    of (inl x) (inr b) = inr (
+      b.0,
+      record {
+        fitting = x.0 ∷ b.1.fitting;
+        before = line ∷ b.1.before;
+        line = b.1.line;
+        after = b.1.after;
+        split = ap (λ (ls : List TextLine). line ∷ ls) b.1.split;
+        fit = (x.1, b.1.fit);
+        bad = b.1.bad;
+        at = b.1.at;
+      },
+    )
+    of (inr bad) rest = inr (
+      line.number,
+      record {
+        fitting = [];
+        before = [];
+        line = line;
+        after = lines;
+        split = refl;
+        fit = tt;
+        bad = bad;
+        at = refl;
+      },
+    )
