@@ -6,15 +6,15 @@ use Rattle.ak_labor.specs.declared.work.Outcome.{Outcome}
 use Rattle.ak_labor.specs.declared.work.Outcome.TheVariants.{Good, Bad}
 use Rattle.ak_print.specs.Work.{outcome_words}
 use Rattle.ak_print.specs.Line.{line_text}
-use Rattle.ak_row.specs.Places.{Place, IsRow, outcome_places, counting_lines}
-use Rattle.ak_row.specs.Plain.{place_word, row_text, IsPlain, IsPlainRow}
+use Rattle.ak_row.specs.Places.{IsRow, outcome_places, counting_lines}
+use Rattle.ak_row.specs.Plain.{place_word, row_text, IsPlainRow}
 use Rattle.ak_row.proofs.Fitting.{one_list, none_bad, one_first_bad, by_rows, read_or_bad}
 use Rattle.ak_row.proofs.ReadBack.{reads_back}
 use Rattle.ak_trace.specs.declared.entry.Entry.{Entry}
 use Rattle.ak_trace.specs.declared.entry.Entry.TheVariants as entry
 use Rattle.ak_trace.specs.declared.refusal.TraceRefused.{TraceRefused}
 use Rattle.ak_trace.specs.declared.refusal.TraceRefused.TheVariants.{BadLine, NoMemory}
-use Rattle.ak_trace.specs.Text.{entry_words, entry_text, trace_text}
+use Rattle.ak_trace.specs.Text.{entry_words, trace_text}
 use Rattle.ak_trace.specs.Reading.{entry_row, IsEntry, TraceReads, HasBadLine, IsInRange, IsRight, IsTrace, IsBad}
 use Rattle.ak_trace.specs.Taken.{entry_of}
 use Rattle.ak_trace.proofs.TakenRows.{one_entry, entry_reads, no_entry_of}

@@ -4,9 +4,9 @@ use Rattle.std.specs.Prelude.{codes}
 use Rattle.std.specs.List.{AllZip, find}
 use Rattle.std.specs.Str.{bytes_eq}
 use Rattle.ak_text.specs.Lines.{TextLine, words_of, has_bad_byte}
-use Rattle.ak_row.specs.Places.{Place, Exactly, Stands, IsRow}
+use Rattle.ak_row.specs.Places.{Place, Exactly, Stands}
 use Rattle.ak_row.specs.Parts.{Part, ◌>>=◌, mapped, whole, row_words}
-use Rattle.ak_row.proofs.Parts.{IsPart, IsItem, item_part, both_part, mapped_sound, mapped_complete, table_reads, table_item, thing_part, job_part, signed_part, kind_part, outcome_part, bind_some, bind_is, whole_sound, whole_complete}
+use Rattle.ak_row.proofs.Parts.{IsPart, item_part, both_part, mapped_sound, mapped_complete, table_reads, table_item, thing_part, job_part, signed_part, kind_part, outcome_part, whole_sound, whole_complete}
 use Rattle.ak_trace.specs.declared.entry.Ending.{Ending}
 use Rattle.ak_trace.specs.declared.entry.Ending.TheVariants as ending
 use Rattle.ak_trace.specs.declared.entry.Entry.{Entry}

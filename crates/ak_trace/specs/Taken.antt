@@ -1,5 +1,5 @@
 -- How the reader takes the words of an entry's line. The laws of `proofs/TakenRows` connect it with the rows.
-use Rattle.std.specs.Prelude.{◌≡◌, ℕ, Bool, true, false, Option, Some, None, List, [], ◌∷◌, codes}
+use Rattle.std.specs.Prelude.{ℕ, Bool, true, false, Option, Some, None, List, [], ◌∷◌, codes}
 use Rattle.std.specs.List.{find}
 use Rattle.std.specs.Str.{bytes_eq}
 use Rattle.ak_text.specs.Lines.{TextLine}

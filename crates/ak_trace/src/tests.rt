@@ -1,6 +1,6 @@
 //! Texts of traces, and the lines that are no entries.
 
-use crate::entry::{Ending, Entry};
+use crate::entry::{Ending, Entry, Trace};
 use crate::laws::trace_reads_back;
 use crate::read::read_trace;
 use crate::refusal::TraceRefused;
@@ -31,9 +31,17 @@ fn the_trace_of_a_print_is_read(rt: HostRuntime) -> Result<(), TraceRefused> {
     Ok(())
 }
 
+/// The trace of a text. One that is too long, as no text of a test is, is refused at line 0.
+fn read(alloc: Global, text: &[u8]) -> Result<Trace, TraceRefused> {
+    if text.len() >= 4_294_967_295 {
+        return Err(TraceRefused::BadLine { line: 0 });
+    }
+    read_trace(alloc, text)
+}
+
 /// The one entry of a text: `None` where it has none or more.
 fn only_entry(alloc: Global, text: &[u8]) -> Option<Entry> {
-    match read_trace(alloc, text).ok()?.as_slice() {
+    match read(alloc, text).ok()?.as_slice() {
         [entry] => Some(*entry),
         _ => None,
     }
@@ -234,7 +242,7 @@ job \xff 1
 
 /// The first bad line of a text: 0 where it has none, and 4294967295 for want of memory.
 fn bad_line(alloc: Global, text: &[u8]) -> u32 {
-    match read_trace(alloc, text) {
+    match read(alloc, text) {
         Ok(_trace) => 0,
         Err(TraceRefused::BadLine { line }) => line,
         Err(TraceRefused::NoMemory) => u32::MAX,

@@ -1,6 +1,5 @@
-use Rattle.std.proofs.Common.{◌≡◌, Some, None, sym, ap, ◌∙◌}
+use Rattle.std.proofs.Common.{sym, ap, ◌∙◌}
 use Rattle.ak_trace.specs.declared.refusal.TraceRefused.TheVariants.{BadLine}
-use Rattle.ak_trace.specs.Taken.{entry_of}
 use Rattle.ak_trace.proofs.TakenRows.{entry_reads, no_entry_of}
 use Rattle.ak_trace.proofs.read.read_entry.Goals as goal
 
