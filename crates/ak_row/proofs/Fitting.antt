@@ -1,8 +1,9 @@
 -- Lines that fit things one for one, and the first bad line.
-use Rattle.std.proofs.Common.{◌≡◌, ℕ, List, [], ◌∷◌, ◌++◌, map, refl, sym, ap, ◌∙◌, subst}
-use Rattle.std.specs.List.{AllZip}
+use Rattle.std.proofs.Common.{◌≡◌, ℕ, true, false, List, [], ◌∷◌, ◌++◌, map, refl, sym, ap, ◌∙◌, subst, append_assoc, ◌⊎◌, inl, inr}
+use Rattle.std.specs.List.{AllZip, filter}
 use Rattle.ak_text.specs.Lines.{TextLine}
 use Rattle.ak_row.specs.Faults.{IsFirstBad}
+use Rattle.ak_row.specs.Places.{counts}
 
 -- a line fits one thing at the most
 abbrev pub FitsOne : {A : Type 0} → (A → TextLine → Type 0) → Type 0
@@ -68,3 +69,95 @@ by_rows of Fits [] [] h = tt
 by_rows of Fits [] (line ∷ lines) h = absurd h
 by_rows of Fits (x ∷ xs) [] h = absurd h
 by_rows of Fits (x ∷ xs) (line ∷ lines) h = (h.0, by_rows of Fits xs lines h.1)
+
+-- ---- how far a reader has come
+-- the lines before those that are left, where none is skipped, fit the things so far
+pub record AreRead {A : Type 0} (Fits : A → TextLine → Type 0) (xs : List A) (left all : List TextLine) : Type 0 where
+  pub before : List TextLine
+  pub fit : AllZip Fits xs before
+  pub split : filter counts all ≡ before ++ filter counts left
+
+pub read_none : {A : Type 0} (Fits : A → TextLine → Type 0) (all : List TextLine) → AreRead Fits [] all all
+read_none Fits all = record { before = []; fit = tt; split = refl }
+
+kept : (line : TextLine) (rest : List TextLine) → counts line ≡ true → filter counts (line ∷ rest) ≡ line ∷ filter counts rest
+kept line rest h = rw h refl
+
+skipped : (line : TextLine) (rest : List TextLine) → counts line ≡ false → filter counts (line ∷ rest) ≡ filter counts rest
+skipped line rest h = rw h refl
+
+pub read_skip : {A : Type 0} (Fits : A → TextLine → Type 0) (xs : List A) (left rest all : List TextLine) (line : TextLine) → AreRead Fits xs left all → left ≡ line ∷ rest → counts line ≡ false → AreRead Fits xs rest all
+read_skip Fits xs left rest all line r is h = record {
+  before = r.before;
+  fit = r.fit;
+  split = r.split ∙ ap (λ (ls : List TextLine). r.before ++ filter counts ls) is ∙ ap (λ (ls : List TextLine). r.before ++ ls) (skipped line rest h);
+}
+
+split_at : {A : Type 0} (Fits : A → TextLine → Type 0) (xs : List A) (left rest all : List TextLine) (line : TextLine) → (r : AreRead Fits xs left all) → left ≡ line ∷ rest → counts line ≡ true → filter counts all ≡ r.before ++ line ∷ filter counts rest
+split_at Fits xs left rest all line r is h = r.split ∙ ap (λ (ls : List TextLine). r.before ++ filter counts ls) is ∙ ap (λ (ls : List TextLine). r.before ++ ls) (kept line rest h)
+
+pub read_more : {A : Type 0} (Fits : A → TextLine → Type 0) (xs : List A) (left rest all : List TextLine) (line : TextLine) (x : A) → AreRead Fits xs left all → left ≡ line ∷ rest → counts line ≡ true → Fits x line → AreRead Fits (xs ++ x ∷ []) rest all
+read_more Fits xs left rest all line x r is h k = record {
+  before = r.before ++ line ∷ [];
+  fit = one_more Fits xs r.before x line r.fit k;
+  split = split_at Fits xs left rest all line r is h ∙ sym (append_assoc r.before (line ∷ []) (filter counts rest));
+}
+
+append_nothing : (lines : List TextLine) → lines ++ [] ≡ lines
+append_nothing [] = refl
+append_nothing (line ∷ lines) = ap (λ (ls : List TextLine). line ∷ ls) (append_nothing lines)
+
+pub read_all : {A : Type 0} (Fits : A → TextLine → Type 0) (xs : List A) (left all : List TextLine) → AreRead Fits xs left all → left ≡ [] → AllZip Fits xs (filter counts all)
+read_all Fits xs left all r is =
+    let whole : filter counts all ≡ r.before = r.split ∙ ap (λ (ls : List TextLine). r.before ++ filter counts ls) is ∙ append_nothing r.before in
+    subst (λ (ls : List TextLine). AllZip Fits xs ls) (sym whole) r.fit
+
+pub read_bad : {A : Type 0} (Fits : A → TextLine → Type 0) (xs : List A) (left rest all : List TextLine) (line : TextLine) → AreRead Fits xs left all → left ≡ line ∷ rest → counts line ≡ true → ((x : A) → Fits x line → ⊥) → IsFirstBad Fits (filter counts all) line.number
+read_bad Fits xs left rest all line r is h bad = record {
+  fitting = xs;
+  before = r.before;
+  line = line;
+  after = filter counts rest;
+  split = split_at Fits xs left rest all line r is h;
+  fit = r.fit;
+  bad = bad;
+  at = refl;
+}
+
+-- ---- one or the other
+abbrev IsReadable : {A : Type 0} → (A → TextLine → Type 0) → List TextLine → Type 0
+IsReadable {A} Fits lines = ((xs : List A) × AllZip Fits xs lines) ⊎ ((number : ℕ) × IsFirstBad Fits lines number)
+
+-- where each line fits something or nothing, all lines fit a list, or there is a first bad one
+pub read_or_bad : {A : Type 0} (Fits : A → TextLine → Type 0) → ((line : TextLine) → ((x : A) × Fits x line) ⊎ ((x : A) → Fits x line → ⊥)) → (lines : List TextLine) → ((xs : List A) × AllZip Fits xs lines) ⊎ ((number : ℕ) × IsFirstBad Fits lines number)
+read_or_bad Fits decide [] = inl ([], tt)
+read_or_bad {A} Fits decide (line ∷ lines) = of (decide line) (read_or_bad Fits decide lines)
+  where
+    of : ((x : A) × Fits x line) ⊎ ((x : A) → Fits x line → ⊥) → IsReadable Fits lines → IsReadable Fits (line ∷ lines)
+    of (inl x) (inl xs) = inl (x.0 ∷ xs.0, (x.1, xs.1))
+    of (inl x) (inr b) = inr (
+      b.0,
+      record {
+        fitting = x.0 ∷ b.1.fitting;
+        before = line ∷ b.1.before;
+        line = b.1.line;
+        after = b.1.after;
+        split = ap (λ (ls : List TextLine). line ∷ ls) b.1.split;
+        fit = (x.1, b.1.fit);
+        bad = b.1.bad;
+        at = b.1.at;
+      },
+    )
+    of (inr bad) rest = inr (
+      line.number,
+      record {
+        fitting = [];
+        before = [];
+        line = line;
+        after = lines;
+        split = refl;
+        fit = tt;
+        bad = bad;
+        at = refl;
+      },
+    )
