@@ -8,7 +8,10 @@ use Rattle.ak_base.proofs.Passing.{Toward, toward-start, toward-then, toward-fau
 use Rattle.ak_print.specs.Line.{line_text}
 use Rattle.ak_history.specs.declared.event.Event.{Event}
 use Rattle.ak_history.specs.declared.event.Event.TheVariants as event
-use Rattle.ak_history.specs.Text.{HistoryLine, Idle, Of, with_event, history_lines, event_text, idle_text, history_line_text, history_text, id_text}
+use Rattle.ak_history.specs.declared.line.HistoryLine.{HistoryLine}
+use Rattle.ak_history.specs.declared.line.HistoryLine.TheVariants.{Idle, Of}
+use Rattle.ak_history.specs.Reading.{rows_events}
+use Rattle.ak_history.specs.Text.{with_event, history_lines, event_text, idle_text, history_line_text, history_text, id_text}
 
 -- an empty drain
 abbrev pub idle : Event
@@ -93,18 +96,13 @@ run-is_one_line n e events h =
     ∙ ap (λ (ls : List HistoryLine). lines_bytes (idle_in_front (suc n) ls)) (with_event-other e (history_lines events) h)
     ∙ bytes-of (suc n) e (history_lines events)
 
--- what the lines of a list of events stand for
-abbrev pub events_of_line : HistoryLine → List Event
-events_of_line (Idle n) = replicate n idle
-events_of_line (Of e) = e ∷ []
-
 pub events-in_front : (e : Event) (lines : List HistoryLine)
-    → flat_map events_of_line (with_event e lines) ≡ e ∷ flat_map events_of_line lines
+    → rows_events (with_event e lines) ≡ e ∷ rows_events lines
 events-in_front (event.Submit id work helper) lines = refl
 events-in_front (event.Start thread id) lines = refl
 events-in_front (event.Finish thread id outcome) lines = refl
 events-in_front (event.Drain []) [] = refl
-events-in_front (event.Drain []) (Idle n ∷ lines) = ap (λ (k : ℕ). replicate k idle ++ flat_map events_of_line lines) (add-one n)
+events-in_front (event.Drain []) (Idle n ∷ lines) = ap (λ (k : ℕ). replicate k idle ++ rows_events lines) (add-one n)
 events-in_front (event.Drain []) (Of e ∷ lines) = refl
 events-in_front (event.Drain (id ∷ ids)) lines = refl
 events-in_front (event.HelperNew helper answer) lines = refl
@@ -112,7 +110,7 @@ events-in_front (event.HelperEnd helper) lines = refl
 events-in_front event.Close lines = refl
 
 -- LAW. The lines stand for just the events.
-pub lines-stand_for : (events : List Event) → flat_map events_of_line (history_lines events) ≡ events
+pub lines-stand_for : (events : List Event) → rows_events (history_lines events) ≡ events
 lines-stand_for [] = refl
 lines-stand_for (e ∷ events) = events-in_front e (history_lines events) ∙ ap (λ (es : List Event). e ∷ es) (lines-stand_for events)
 

@@ -5,11 +5,8 @@ use Rattle.ak_print.specs.Line.{line_text}
 use Rattle.ak_print.specs.Work.{kind_word, outcome_words}
 use Rattle.ak_history.specs.declared.event.Event.{Event}
 use Rattle.ak_history.specs.declared.event.Event.TheVariants as event
-
--- a line of a history: so many empty drains one after another, or another event
-pub data HistoryLine : Type 0 where
-  Idle : ℕ → HistoryLine
-  Of : Event → HistoryLine
+use Rattle.ak_history.specs.declared.line.HistoryLine.{HistoryLine}
+use Rattle.ak_history.specs.declared.line.HistoryLine.TheVariants.{Idle, Of}
 
 -- The lines with an event in front: an empty drain joins the run that follows it.
 abbrev pub with_event : Event → List HistoryLine → List HistoryLine

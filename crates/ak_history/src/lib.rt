@@ -2,4 +2,11 @@
 #![tactic(auto)]
 
 pub mod event;
+mod form;
+pub mod laws;
+pub mod line;
+pub mod reading;
+pub mod refusal;
+#[cfg(test)]
+mod tests;
 pub mod text;

@@ -1,5 +1,12 @@
-//! The trace of a run: its entries and their text.
+//! The trace of a run: its entries, their text, and its reader.
 #![tactic(auto)]
 
 pub mod entry;
+mod keyword;
+pub mod laws;
+pub mod read;
+pub mod refusal;
+mod rows;
+#[cfg(test)]
+mod tests;
 pub mod text;

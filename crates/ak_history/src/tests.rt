@@ -1,0 +1,161 @@
+//! Tests of the texts of histories that are read.
+
+use crate::reading::read_history;
+use crate::refusal::HistoryRefused;
+use crate::text::write_history;
+use ak_base::memory::MemSink;
+use std::alloc::Global;
+
+/// More bytes than any text or output of a test here.
+const ROOM: usize = 1000;
+
+/// What a text is read as: the plain text of its history with the line of each event, or its bad line.
+#[derive(Clone, Copy)]
+enum Wanted<'a> {
+    History(&'a str, &'a [u32]),
+    Bad(u32),
+}
+
+use Wanted::{Bad, History};
+
+// Whether a short text is read so, where its first line has that number.
+fn is_read_as(
+    alloc: Global,
+    text: &str,
+    first: u32,
+    wanted: Wanted,
+) -> Result<bool, HistoryRefused> {
+    if text.len() > ROOM || first > 1000 {
+        return Ok(false);
+    }
+    match (read_history(alloc, text.as_bytes(), first), wanted) {
+        (Ok(recorded), History(written, lines)) => {
+            let mut sink = MemSink::make(alloc, ROOM, ROOM, Vec::new(alloc))?;
+            let wrote = write_history(&recorded.history, &mut sink).is_ok();
+            Ok(wrote && sink.taken() == written.as_bytes() && recorded.lines.as_slice() == lines)
+        }
+        (Err(HistoryRefused::BadLine { line }), Bad(wanted)) => Ok(line == wanted),
+        (Err(HistoryRefused::NoMemory), _) => Err(HistoryRefused::NoMemory),
+        _ => Ok(false),
+    }
+}
+
+const WORKED: &str =
+    "idle 1\nhelper 0 granted 0\nhelper 1 refused\nsubmit 0 general square 3\nsubmit 1 helper 0 square 4\nhelperend 0\nidle 2\nstart 0 1\nfinish 0 1 good 16\nstart 0 0\nfinish 0 0 good 9\ndrain 1 0\nidle 1\nclose\n";
+
+const EACH: &str =
+    "submit 2 general fail 9223372036854775807\nsubmit 3 helper 4294967295 mix -4\nfinish 3 2 bad -9223372036854775808\ndrain 4294967295\nhelper 1 granted 31\n";
+
+#[test]
+fn histories_are_read(rt: HostRuntime) -> Result<(), HistoryRefused> {
+    let numbers = [1, 2, 3, 4, 5, 6, 7, 7, 8, 9, 10, 11, 12, 13, 14];
+    for (text, first, written, lines) in [
+        (WORKED, 1, WORKED, numbers.as_slice()),
+        (EACH, 1, EACH, &numbers[..5]),
+        ("", 1, "", &[]),
+        ("# é\n\n \t \n", 1, "", &[]),
+        (
+            "\tstart  007\t-0 \r\nclose\r",
+            1,
+            "start 7 0\nclose\n",
+            &[1, 2],
+        ),
+        (
+            "submit 00 general square -03 # three",
+            1,
+            "submit 0 general square -3\n",
+            &[1],
+        ),
+        ("idle 2\nidle 003\n", 1, "idle 5\n", &[1, 1, 2, 2, 2]),
+        (
+            "# x\n\nidle 1#\r\n\nclose\n",
+            25,
+            "idle 1\nclose\n",
+            &[27, 29],
+        ),
+        ("close\nclose\n", 0, "close\nclose\n", &[0, 1]),
+    ] {
+        assert!(rt;
+            is_read_as(rt.alloc(), text, first, History(written, lines))?,
+            "{text}"
+        );
+    }
+    Ok(())
+}
+
+#[test]
+fn the_first_bad_line_is_named(rt: HostRuntime) -> Result<(), HistoryRefused> {
+    for (text, first, line) in [
+        ("close\n\n# x\nclose\nidle 0\nopen\n", 1, 5),
+        ("idle 1\n\nidle\n", 25, 27),
+        ("é", 0, 0),
+        ("idle 1\nclose \u{7f}\n", 1, 2),
+        ("\u{1} # é\n", 1, 1),
+    ] {
+        assert!(rt; is_read_as(rt.alloc(), text, first, Bad(line))?, "{text}");
+    }
+    Ok(())
+}
+
+#[test]
+fn bad_lines_are_refused(rt: HostRuntime) -> Result<(), HistoryRefused> {
+    for text in [
+        "submit 0 general square",
+        "submit 0 general square 3 4",
+        "submit 0 general square 9223372036854775808",
+        "submit 0 general cube 3",
+        "submit 0 helper square 3",
+        "submit 0 helper 4294967296 square 3",
+        "submit 0 any square 3",
+        "submit 4294967296 general square 3",
+        "start 0",
+        "start 0 1 2",
+        "start 4294967296 0",
+        "start 0 -1",
+        "finish 0 1 good",
+        "finish 0 1 good 16 9",
+        "finish 0 1 fine 16",
+        "drain",
+        "drain 1 x",
+        "drain 1 4294967296",
+        "idle",
+        "idle 0",
+        "idle -1",
+        "idle 1000001",
+        "idle 1 1",
+        "helper 0",
+        "helper 0 granted",
+        "helper 0 granted 4294967296",
+        "helper 0 granted 1 1",
+        "helper 0 refused 1",
+        "helper 0 given 1",
+        "helperend",
+        "helperend 0 1",
+        "close 0",
+        "Close",
+        "%pool",
+        "cycle",
+    ] {
+        assert!(rt; is_read_as(rt.alloc(), text, 1, Bad(1))?, "{text}");
+    }
+    Ok(())
+}
+
+#[test]
+fn a_million_empty_drains_are_one_line(rt: HostRuntime) -> Result<(), HistoryRefused> {
+    let recorded = read_history(rt.alloc(), b"idle 1000000\nclose", 1)?;
+    assert_eq!(rt; recorded.history.len(), 1_000_001);
+    assert_eq!(rt; recorded.lines.get(999_999).copied(), Some(1));
+    assert_eq!(rt; recorded.lines.get(1_000_000).copied(), Some(2));
+    Ok(())
+}
+
+#[test]
+fn too_many_events_are_a_bad_line(rt: HostRuntime) -> Result<(), HistoryRefused> {
+    let text = b"idle 1000000\n".repeat(rt.alloc(), 17)?;
+    assert_eq!(rt;
+        read_history(rt.alloc(), text.as_slice(), 1).map(|_| ()),
+        Err(HistoryRefused::BadLine { line: 17 })
+    );
+    Ok(())
+}

@@ -1,0 +1,5 @@
+pub mod Fitting
+pub mod Numbers
+pub mod Parts
+pub mod ReadBack
+pub mod Written
