@@ -4,24 +4,26 @@ use Rattle.std.specs.Prelude.{Option, Some, None, IfSome, nat_le}
 use Rattle.std.proofs.lemmas.List.{reverse-append}
 use Rattle.ak_base.specs.Lists.{is_empty_list}
 use Rattle.ak_labor.specs.declared.ask.Ask.{Ask}
+use Rattle.ak_labor.specs.declared.ask.Ask.TheVariants as ask
 use Rattle.ak_frames.specs.declared.frame.Task.{Task}
 use Rattle.ak_rings.specs.declared.job.Job.{Job}
 use Rattle.ak_rings.specs.Queues.{pick_of, has_pick, is_some_job}
 use Rattle.ak_trace.specs.declared.entry.Entry.{Entry}
 use Rattle.ak_trace.specs.declared.entry.Entry.TheVariants as entry
+use Rattle.ak_trace.specs.declared.entry.Ending.{Ending}
 use Rattle.ak_trace.specs.declared.entry.Ending.TheVariants as ending
 use Rattle.ak_machine.specs.declared.config.Flow.{Flow}
 use Rattle.ak_machine.specs.declared.config.Flow.TheVariants as flow
 use Rattle.ak_machine.specs.State.{State}
 use Rattle.ak_machine.specs.Deferred.{noting}
 use Rattle.ak_machine.specs.Cycle.{cycle_begun, has_more}
-use Rattle.ak_machine.specs.Job.{Over, run_job}
+use Rattle.ak_machine.specs.Job.{Progress, Over, Asking, run_job}
 use Rattle.ak_machine.specs.Run.{Machine, AtDrain, picked, progressed, went, cycle_ended, ending_by, draining}
 use Rattle.ak_machine.specs.Status.{Well, AtJobLimit, status_back, status_of}
 use Rattle.ak_exec.specs.Seen.{without_pick}
 use Rattle.ak_exec.specs.Steps.{after_is, Ends}
 use Rattle.ak_exec.specs.Worlds.{Worldly, with_state, with_pick, ran_with, RunsJob}
-use Rattle.ak_cycle.specs.Turns.{at_drain, at_close, goes_to, drained_with, turns_left, IsFinished}
+use Rattle.ak_cycle.specs.Turns.{at_drain, at_close, goes_to, drained_with, turns_left, IsFinished, IsTurned, IsAsking}
 
 -- ---- ends
 pub idle_ends : (t : List Entry) → status_of (t ++ entry.End ending.Idle ∷ []) ≡ Well
@@ -104,6 +106,52 @@ idle_closes w w' asked works e m d n is =
     ∙ idle_at w asked (has_more w.plain) (is_empty_list w.plain.works) _ _ m (empty_by (is_empty_list w.plain.works) works d n)
     ∙ ap (λ (x : Worldly). at_close x asked) (sym is)
 
+-- ---- what is asked where a turn finds no memory
+went_asks : (f : Flow) (s : State) (m : Machine) → m.waits ≡ [] → IsAsking (went (after_is f s) m) m.asks
+went_asks flow.On s m w = record { next = ask.Drain; wants = refl; asks_are = refl; no_wait = w }
+went_asks flow.Stopped s m w = record { next = ask.Close; wants = refl; asks_are = refl; no_wait = w }
+went_asks (flow.Unhandled num) s m w = record { next = ask.Close; wants = refl; asks_are = refl; no_wait = w }
+
+progress_asks : (p : Progress) (m : Machine) → m.waits ≡ [] → IsAsking (progressed p m) m.asks
+progress_asks (Over after) m w = went_asks after.flow after.state m w
+progress_asks (Asking a s rest) m w = record { next = a; wants = refl; asks_are = refl; no_wait = w }
+
+end_asks : (why : Ending) (s : State) (m : Machine) → m.waits ≡ [] → IsAsking (ending_by why s m) m.asks
+end_asks why s m w = record { next = ask.Close; wants = refl; asks_are = refl; no_wait = w }
+
+begin_asks : (s : State) (m : Machine) → m.waits ≡ [] → IsAsking (draining s m) m.asks
+begin_asks s m w = record { next = ask.Drain; wants = refl; asks_are = refl; no_wait = w }
+
+either_asks : (b : Bool) (m n : Machine) (asked : List Ask) → IsAsking m asked → IsAsking n asked → IsAsking (cond b m n) asked
+either_asks true m n asked h k = h
+either_asks false m n asked h k = k
+
+job_asks_at : (w : Worldly) (o : Option (Job Task)) (asked : List Ask) → is_some_job o ≡ true → IsAsking (picked w.program.procs w.config o w.plain (record { state = w.plain; ran = w.ran; asks = asked; waits = []; place = AtDrain })) asked
+job_asks_at w (Some job) asked e =
+    either_asks (nat_le w.config.jobs w.ran) _ _ asked
+    (end_asks ending.Jobs w.plain (record { state = w.plain; ran = w.ran; asks = asked; waits = []; place = AtDrain }) refl)
+    (progress_asks (run_job w.program.procs job (without_pick w.plain)) (record { state = w.plain; ran = w.ran + 1; asks = asked; waits = []; place = AtDrain }) refl)
+job_asks_at w None asked e = absurd (cc)
+
+pub job_asks : (w : Worldly) → has_pick w.plain.queues ≡ true → (asked : List Ask) → IsAsking (drained_with w asked) asked
+job_asks w e asked = job_asks_at w (pick_of w.plain.queues) asked e
+
+cycle_asks_at : (b c : Bool) (s : State) (m third : Machine) → m.waits ≡ [] → c ≡ true → IsAsking (cond b (draining (cycle_begun s) m) (cond c (ending_by ending.Idle s m) third)) m.asks
+cycle_asks_at true c s m third w e = begin_asks (cycle_begun s) m w
+cycle_asks_at false true s m third w e = end_asks ending.Idle s m w
+cycle_asks_at false false s m third w e = absurd (cc)
+
+pub cycle_asks : (w : Worldly) → has_pick w.plain.queues ≡ false → has_more w.plain ≡ true → (asked : List Ask) → IsAsking (drained_with w asked) asked
+cycle_asks w e m asked =
+    let at : Machine = record { state = w.plain; ran = w.ran; asks = asked; waits = []; place = AtDrain }
+    in subst (λ (x : Machine). IsAsking x asked) (sym (ended_at w (pick_of w.plain.queues) asked e ∙ goes_on_at w asked (has_more w.plain) _ m)) (begin_asks (cycle_begun w.plain) at refl)
+
+pub idle_asks : (w : Worldly) (works : Bool) → has_pick w.plain.queues ≡ false → works ≡ not (is_empty_list w.plain.works) → works ≡ false → (asked : List Ask) → IsAsking (drained_with w asked) asked
+idle_asks w works e d n asked =
+    let at : Machine = record { state = w.plain; ran = w.ran; asks = asked; waits = []; place = AtDrain }
+    in subst (λ (x : Machine). IsAsking x asked) (sym (ended_at w (pick_of w.plain.queues) asked e))
+    (cycle_asks_at (has_more w.plain) (is_empty_list w.plain.works) w.plain at _ refl (empty_by (is_empty_list w.plain.works) works d n))
+
 -- ---- the turns that are left
 few : (b : Bool) → cond b 0 1 ≤ 1
 few true = omega arith
@@ -129,3 +177,51 @@ cycle_leaves w w' e d c r =
     in let none : ℕ = 0
     in let b : cond (has_pick w'.plain.queues) 0 1 ≡ none = ap (λ b. cond b 0 1) d
     in omega (arith, j, a, b, r)
+
+-- ---- a turn as a whole
+not_on : (f : Flow) → is_on f ≡ false → f ≡ flow.On → ⊥
+not_on flow.On e h = absurd (cc)
+not_on flow.Stopped e h = absurd (cc)
+not_on (flow.Unhandled num) e h = absurd (cc)
+
+pub job_turned : (w w' : Worldly) (f : Flow) (on : Bool) → on ≡ is_on f → has_pick w.plain.queues ≡ true → nat_le w.config.jobs w.ran ≡ false → w.ran < w.config.jobs → RunsJob (with_pick w) f w'.plain → Ends f w'.plain.trace → w' ≡ record (with_pick w) { plain = w'.plain; picked = None } → IsTurned w on w'
+job_turned w w' f on told e unspent below runs ends is =
+    subst (λ b. IsTurned w b w') (sym told)
+    (record {
+      step = λ asked. job_goes w w' f asked e unspent runs is;
+      finished = λ off. flow_ends f w'.plain.trace (not_on f off) ends;
+      left = λ on. job_leaves w w' e below is;
+      program_is = ap (λ (x : Worldly). x.program) is;
+      config_is = ap (λ (x : Worldly). x.config) is;
+      free = ap (λ (x : Worldly). x.picked) is;
+    })
+
+pub limit_turned : (w w' : Worldly) → has_pick w.plain.queues ≡ true → nat_le w.config.jobs w.ran ≡ true → w' ≡ with_state (noting (entry.End ending.Jobs) w.plain) w → w.picked ≡ None → IsTurned w false w'
+limit_turned w w' e spent is free = record {
+  step = λ asked. limit_closes w w' asked e spent is;
+  finished = λ off. subst (λ (x : Worldly). IsFinished (status_of x.plain.trace)) (sym is) (subst IsFinished (sym (jobs_end w.plain.trace)) tt);
+  left = λ on. absurd (cc);
+  program_is = ap (λ (x : Worldly). x.program) is;
+  config_is = ap (λ (x : Worldly). x.config) is;
+  free = ap (λ (x : Worldly). x.picked) is ∙ free;
+}
+
+pub cycle_turned : (w w' : Worldly) → has_pick w.plain.queues ≡ false → has_more w.plain ≡ true → has_pick w'.plain.queues ≡ has_more w.plain → w' ≡ with_state (cycle_begun w.plain) w → w.picked ≡ None → IsTurned w true w'
+cycle_turned w w' e more picks is free = record {
+  step = λ asked. cycle_goes w w' asked e more is;
+  finished = λ off. absurd (cc);
+  left = λ on. cycle_leaves w w' e (picks ∙ more) (ap (λ (x : Worldly). x.config) is) (ap (λ (x : Worldly). x.ran) is);
+  program_is = ap (λ (x : Worldly). x.program) is;
+  config_is = ap (λ (x : Worldly). x.config) is;
+  free = ap (λ (x : Worldly). x.picked) is ∙ free;
+}
+
+pub idle_turned : (w w' : Worldly) (works : Bool) → has_pick w.plain.queues ≡ false → has_more w.plain ≡ false → works ≡ not (is_empty_list w.plain.works) → works ≡ false → w' ≡ with_state (noting (entry.End ending.Idle) w.plain) w → w.picked ≡ None → IsTurned w false w'
+idle_turned w w' works e more d none is free = record {
+  step = λ asked. idle_closes w w' asked works e more d none is;
+  finished = λ off. subst (λ (x : Worldly). IsFinished (status_of x.plain.trace)) (sym is) (subst IsFinished (sym (idle_ends w.plain.trace)) tt);
+  left = λ on. absurd (cc);
+  program_is = ap (λ (x : Worldly). x.program) is;
+  config_is = ap (λ (x : Worldly). x.config) is;
+  free = ap (λ (x : Worldly). x.picked) is ∙ free;
+}

@@ -1,6 +1,10 @@
 -- What a run over a port has to do with the machine.
-use Rattle.std.specs.Prelude.{ℕ, List, [], ◌∷◌, ◌++◌, ◌≡◌}
+use Rattle.std.specs.Prelude.{ℕ, ◌+◌, List, [], ◌∷◌, ◌++◌, ◌≡◌, length, Ok, Err}
+use Rattle.std.specs.declared.result.Result.{Result}
 use Rattle.ak_labor.specs.declared.ask.Ask.{Ask}
+use Rattle.ak_labor.specs.declared.port.PortError.{PortError}
+use Rattle.ak_labor.specs.declared.port.PortError.TheVariants.{Fault, NoMemory}
+use Rattle.ak_labor.specs.Calls.{Reply, IsOpen}
 use Rattle.ak_trace.specs.declared.entry.Entry.{Entry}
 use Rattle.ak_machine.specs.Run.{Run, HasEnded, Wants}
 
@@ -11,11 +15,27 @@ pub record HasEndedWith (run : Run) (trace : List Entry) (asked : List Ask) (wai
   pub asks_are : run.asks ≡ asked
   pub waits_are : run.waits ≡ waits
 
--- the machine's run wants the reply to the last of the calls that the port was asked
-pub record WantsLast (run : Run) (asked : List Ask) (waits : List ℕ) : Type 0 where
+-- the machine's run wants the reply to the last of the calls that the port was asked, and the others have theirs
+pub record WantsLast (run : Run) (asked : List Ask) (replies : List Reply) (waits : List ℕ) : Type 0 where
   pub last : Ask
   pub before : List Ask
   pub wants : run.outcome ≡ Wants last
   pub asked_is : asked ≡ before ++ last ∷ []
+  pub one_more : length asked ≡ length replies + 1
   pub asks_are : run.asks ≡ asked
   pub waits_are : run.waits ≡ waits
+
+-- the machine's run wants the reply to a call that comes next and that the port was not asked; each call before it has its
+-- reply, and none was the close
+pub record WantsNext (run : Run) (asked : List Ask) (replies : List Reply) (waits : List ℕ) : Type 0 where
+  pub next : Ask
+  pub wants : run.outcome ≡ Wants next
+  pub opened : IsOpen asked replies
+  pub asks_are : run.asks ≡ asked ++ next ∷ []
+  pub waits_are : run.waits ≡ waits
+
+-- the answer is want of memory
+abbrev pub IsNoMemory : {T F : Type 0} → Result T (PortError F) → Type 0
+IsNoMemory (Ok v) = ⊥
+IsNoMemory (Err (Fault f)) = ⊥
+IsNoMemory (Err NoMemory) = Unit {0}

@@ -1,5 +1,5 @@
 -- One turn of a run: what follows the reply to a drain, up to the next drain or the close.
-use Rattle.std.specs.Prelude.{ℕ, ◌+◌, ◌-◌, ◌*◌, ◌≡◌, List, [], ◌∷◌, ◌++◌, Bool, true, false, None, if◌then◌else◌}
+use Rattle.std.specs.Prelude.{ℕ, ◌+◌, ◌-◌, ◌*◌, ◌<◌, ◌≡◌, List, [], ◌∷◌, ◌++◌, Bool, true, false, None, if◌then◌else◌}
 use Rattle.std.specs.List.{filter_map}
 use Rattle.ak_labor.specs.declared.ask.Ask.{Ask}
 use Rattle.ak_labor.specs.declared.ask.Ask.TheVariants as ask
@@ -7,10 +7,10 @@ use Rattle.ak_labor.specs.Calls.{Reply, IsOpen}
 use Rattle.ak_labor.specs.Waits.{handed_by}
 use Rattle.ak_rings.specs.Queues.{pick_of, has_pick}
 use Rattle.ak_machine.specs.declared.config.Config.{Config}
-use Rattle.ak_machine.specs.Run.{Machine, AtDrain, AtClose, picked, machine_after}
+use Rattle.ak_machine.specs.Run.{Machine, AtDrain, AtClose, Wants, ran_to, picked, machine_after}
 use Rattle.ak_machine.specs.Status.{Stat, Well, ByError, AtJobLimit, Stuck, Unfinished, status_of}
 use Rattle.ak_program.specs.Programs.{NumProgram}
-use Rattle.ak_exec.specs.Worlds.{Worldly, IsWhole}
+use Rattle.ak_exec.specs.Worlds.{Worldly}
 
 -- the machine that waits for the reply to a drain, where these were asked before
 abbrev pub at_drain : Worldly → List Ask → Machine
@@ -31,6 +31,13 @@ drained_with w asked =
     picked w.program.procs w.config (pick_of w.plain.queues) w.plain
     (record { state = w.plain; ran = w.ran; asks = asked; waits = []; place = AtDrain })
 
+-- the machine made one call more than these and wants its reply, and waited for nothing
+pub record IsAsking (m : Machine) (asked : List Ask) : Type 0 where
+  pub next : Ask
+  pub wants : ran_to m.place ≡ Wants next
+  pub asks_are : m.asks ≡ asked ++ next ∷ []
+  pub no_wait : m.waits ≡ []
+
 -- the trace has its end
 abbrev pub IsFinished : Stat → Type 0
 IsFinished Well = Unit {0}
@@ -47,10 +54,19 @@ turns_left w = 2 * (w.config.jobs - w.ran) + (if has_pick w.plain.queues then 0 
 abbrev pub left_where : Bool → Worldly → ℕ
 left_where on w = if on then 1 + turns_left w else 0
 
+-- what follows a drain that brought nothing takes one world to another: the machine goes to the next drain where the run goes
+-- on, with fewer turns left, and else to the close, with its end written
+pub record IsTurned (old : Worldly) (on : Bool) (new : Worldly) : Type 0 where
+  pub step : (asked : List Ask) → drained_with old asked ≡ goes_to on new asked
+  pub finished : on ≡ false → IsFinished (status_of new.plain.trace)
+  pub left : on ≡ true → turns_left new < turns_left old
+  pub program_is : new.program ≡ old.program
+  pub config_is : new.config ≡ old.config
+  pub free : new.picked ≡ None
+
 -- a run under way over a port: the machine on the port's replies drains next, or closes next where the run doesn't go on, and the
 -- port was asked and replied what the machine asks; no work was handed in
 pub record IsAt (on : Bool) (program : NumProgram) (config : Config) (w : Worldly) (asked : List Ask) (replies : List Reply) (waits : List ℕ) : Type 0 where
-  pub whole : IsWhole w
   pub free : w.picked ≡ None
   pub program_is : w.program ≡ program
   pub config_is : w.config ≡ config

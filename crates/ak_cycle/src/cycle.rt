@@ -9,7 +9,7 @@ ghost use Rattle.ak_machine.specs.Run.{run_of};
 ghost use Rattle.ak_machine.specs.Status.{status_of};
 ghost use Rattle.ak_program.specs.Programs.{NumProgram};
 ghost use Rattle.ak_exec.specs.Built.{AreBuilt};
-ghost use Rattle.ak_cycle.specs.Runs.{HasEndedWith, WantsLast};
+ghost use Rattle.ak_cycle.specs.Runs.{HasEndedWith, WantsLast, WantsNext, IsNoMemory};
 ghost use Rattle.ak_cycle.specs.Turns.{IsAt, IsFinished, turns_left};
 
 use crate::turn::advance;
@@ -30,8 +30,10 @@ use std::alloc::Global;
 ///
 /// # Errors
 ///
-/// `Fault`, only where a call of the port answered it: the machine then wants the reply to that call. `NoMemory` for
-/// want of memory.
+/// `Fault`, only where a call of the port answered it: the machine then wants the reply to that call, which stands last
+/// among the port's calls and alone has no reply. `NoMemory` for want of memory: the calls on the port until then are
+/// those of the machine, each with its reply, the machine wants the reply to a call that was not made, and the port can
+/// still be closed.
 pub fn run<P: Port>(
     alloc: Global,
     program: Program,
@@ -47,7 +49,8 @@ pub fn run<P: Port>(
     ensures ended { IfOk result (λ trace. HasEndedWith (run_of program.procs program.main config (P.replies port.new)) trace (P.asked port.new) (P.waits port.new)) }
     ensures finished { IfOk result (λ trace. IsFinished (status_of trace)) }
     ensures threads { P.threads port.new ≡ P.threads port.old }
-    ensures fault { IsFault result → WantsLast (run_of program.procs program.main config (P.replies port.new)) (P.asked port.new) (P.waits port.new) }
+    ensures fault { IsFault result → WantsLast (run_of program.procs program.main config (P.replies port.new)) (P.asked port.new) (P.replies port.new) (P.waits port.new) }
+    ensures memory { IsNoMemory result → WantsNext (run_of program.procs program.main config (P.replies port.new)) (P.asked port.new) (P.replies port.new) (P.waits port.new) }
 {
     let mut world = World::make(alloc, program, config)?;
     begin_cycle(&mut world)?;
@@ -69,7 +72,8 @@ fn turn<P: Port>(
     ensures at { IfOk result (λ on. IsAt on world.old.program world.old.config world.new (P.asked port.new) (P.replies port.new) (P.waits port.new)) }
     ensures left { IfOk result (λ on. on ≡ true → turns_left world.new < turns_left world.old) }
     ensures threads { P.threads port.new ≡ P.threads port.old }
-    ensures fault { IsFault result → WantsLast (run_of world.old.program.procs world.old.program.main world.old.config (P.replies port.new)) (P.asked port.new) (P.waits port.new) }
+    ensures fault { IsFault result → WantsLast (run_of world.old.program.procs world.old.program.main world.old.config (P.replies port.new)) (P.asked port.new) (P.replies port.new) (P.waits port.new) }
+    ensures memory { IsNoMemory result → WantsNext (run_of world.old.program.procs world.old.program.main world.old.config (P.replies port.new)) (P.asked port.new) (P.replies port.new) (P.waits port.new) }
 {
     fetch(alloc, port)?;
     let on = advance(world)?;

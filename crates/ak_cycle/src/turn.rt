@@ -1,11 +1,9 @@
 //! What follows a drain that brought nothing, up to the next drain or the close.
 
-ghost use Rattle.std.specs.Prelude.{◌≡◌, ◌<◌, List, [], false, true, nat_le, None, IfOk, OnOk};
+ghost use Rattle.std.specs.Prelude.{◌≡◌, List, false, true, nat_le, None, IfOk, OnErr};
 ghost use Rattle.ak_labor.specs.declared.ask.Ask.{Ask};
 ghost use Rattle.ak_rings.specs.Queues.{has_pick};
-ghost use Rattle.ak_machine.specs.Status.{status_of};
-ghost use Rattle.ak_exec.specs.Worlds.{IsWhole};
-ghost use Rattle.ak_cycle.specs.Turns.{goes_to, drained_with, turns_left, IsFinished};
+ghost use Rattle.ak_cycle.specs.Turns.{drained_with, IsTurned, IsAsking};
 
 use ak_base::list::NoMemory;
 use ak_exec::world::{
@@ -16,15 +14,9 @@ use ak_trace::entry::Ending;
 
 /// Runs the next job, or ends the cycle or the run. The answer is whether the run goes on.
 pub fn advance(world: &mut World) -> Result<bool, NoMemory>
-    requires whole { IsWhole world.old }
     requires free { world.old.picked ≡ None }
-    ensures step { IfOk result (λ on. (asked : List Ask) → drained_with world.old asked ≡ goes_to on world.new asked) }
-    ensures finished { IfOk result (λ on. on ≡ false → IsFinished (status_of world.new.plain.trace)) }
-    ensures left { IfOk result (λ on. on ≡ true → turns_left world.new < turns_left world.old) }
-    ensures program { OnOk result (world.new.program ≡ world.old.program) }
-    ensures config { OnOk result (world.new.config ≡ world.old.config) }
-    ensures whole { OnOk result (IsWhole world.new) }
-    ensures free { OnOk result (world.new.picked ≡ None) }
+    ensures turned { IfOk result (λ on. IsTurned world.old on world.new) }
+    ensures memory { OnErr result ((asked : List Ask) → IsAsking (drained_with world.old asked) asked) }
 {
     if !can_pick(world) {
         return end_cycle(world);
@@ -39,15 +31,9 @@ pub fn advance(world: &mut World) -> Result<bool, NoMemory>
 fn run_next(world: &mut World) -> Result<bool, NoMemory>
     requires pick { has_pick world.old.plain.queues ≡ true }
     requires unspent { nat_le world.old.config.jobs world.old.ran ≡ false }
-    requires whole { IsWhole world.old }
     requires free { world.old.picked ≡ None }
-    ensures step { IfOk result (λ on. (asked : List Ask) → drained_with world.old asked ≡ goes_to on world.new asked) }
-    ensures finished { IfOk result (λ on. on ≡ false → IsFinished (status_of world.new.plain.trace)) }
-    ensures left { IfOk result (λ on. on ≡ true → turns_left world.new < turns_left world.old) }
-    ensures program { OnOk result (world.new.program ≡ world.old.program) }
-    ensures config { OnOk result (world.new.config ≡ world.old.config) }
-    ensures whole { OnOk result (IsWhole world.new) }
-    ensures free { OnOk result (world.new.picked ≡ None) }
+    ensures turned { IfOk result (λ on. IsTurned world.old on world.new) }
+    ensures memory { OnErr result ((asked : List Ask) → IsAsking (drained_with world.old asked) asked) }
 {
     let _no = pick(world);
     match run_frame(world)? {
@@ -60,15 +46,9 @@ fn run_next(world: &mut World) -> Result<bool, NoMemory>
 fn end_at_limit(world: &mut World) -> Result<bool, NoMemory>
     requires pick { has_pick world.old.plain.queues ≡ true }
     requires spent { nat_le world.old.config.jobs world.old.ran ≡ true }
-    requires whole { IsWhole world.old }
     requires free { world.old.picked ≡ None }
-    ensures step { IfOk result (λ on. (asked : List Ask) → drained_with world.old asked ≡ goes_to on world.new asked) }
-    ensures finished { IfOk result (λ on. on ≡ false → IsFinished (status_of world.new.plain.trace)) }
-    ensures ends { IfOk result (λ on. on ≡ false) }
-    ensures program { OnOk result (world.new.program ≡ world.old.program) }
-    ensures config { OnOk result (world.new.config ≡ world.old.config) }
-    ensures whole { OnOk result (IsWhole world.new) }
-    ensures free { OnOk result (world.new.picked ≡ None) }
+    ensures turned { IfOk result (λ on. IsTurned world.old on world.new) }
+    ensures memory { OnErr result ((asked : List Ask) → IsAsking (drained_with world.old asked) asked) }
 {
     finish(world, Ending::Jobs)?;
     Ok(false)
@@ -77,20 +57,15 @@ fn end_at_limit(world: &mut World) -> Result<bool, NoMemory>
 // Begins the next cycle where something is left to do, and else ends the run idle.
 fn end_cycle(world: &mut World) -> Result<bool, NoMemory>
     requires pick { has_pick world.old.plain.queues ≡ false }
-    requires whole { IsWhole world.old }
     requires free { world.old.picked ≡ None }
-    ensures step { IfOk result (λ on. (asked : List Ask) → drained_with world.old asked ≡ goes_to on world.new asked) }
-    ensures finished { IfOk result (λ on. on ≡ false → IsFinished (status_of world.new.plain.trace)) }
-    ensures left { IfOk result (λ on. on ≡ true → turns_left world.new < turns_left world.old) }
-    ensures program { OnOk result (world.new.program ≡ world.old.program) }
-    ensures config { OnOk result (world.new.config ≡ world.old.config) }
-    ensures whole { OnOk result (IsWhole world.new) }
-    ensures free { OnOk result (world.new.picked ≡ None) }
+    ensures turned { IfOk result (λ on. IsTurned world.old on world.new) }
+    ensures memory { OnErr result ((asked : List Ask) → IsAsking (drained_with world.old asked) asked) }
 {
     if more(world) {
         begin_cycle(world)?;
         return Ok(true);
     }
+    // its contract says that no work is outstanding
     let _works = outstanding(world);
     finish(world, Ending::Idle)?;
     Ok(false)

@@ -1,22 +1,25 @@
 -- What each change of the parts does to the state that they stand for.
 use Rattle.std.proofs.Common.{ℕ, ◌≡◌, List, [], ◌∷◌, ◌++◌, length, map, fold, refl, ap, sym, ◌∙◌, subst, ◌<◌, Bool, true, false, not, ◌||◌, cond}
 use Rattle.std.proofs.lemmas.List.{length-map}
-use Rattle.std.specs.Prelude.{ℤ, Option, Some, None, ◌==◌}
+use Rattle.std.specs.Prelude.{ℤ, Option, Some, None, is_none, ◌==◌}
 use Rattle.ak_base.specs.declared.number.Ctx.{Ctx}
 use Rattle.ak_base.specs.Lists.{first_of, rest_of}
 use Rattle.ak_rings.specs.Queues.{Queues, picked_from, has_no_job}
 use Rattle.ak_cells.specs.declared.registration.Registration.{Registration}
 use Rattle.ak_cells.specs.declared.registration.Woken.{Woken}
+use Rattle.ak_cells.specs.declared.registration.Placed.TheVariants.{Kept, Full}
+use Rattle.ak_cells.specs.declared.registration.Connected.{Connected}
+use Rattle.ak_cells.specs.declared.registration.Connected.TheVariants.{Same, ResultFull, Filled, Joined}
 use Rattle.ak_cells.specs.Names.{name_in, trimmed, renamed}
-use Rattle.ak_cells.specs.Cells.{number_in, waiting_on}
-use Rattle.ak_cells.specs.Rooms.{NamedCells, fresh_named, number_of, registered, registered_at, woken_by as cell_woken_by, filled_named, connected, connected_at, named_renamed}
+use Rattle.ak_cells.specs.Cells.{Cells, number_in, waiting_on}
+use Rattle.ak_cells.specs.Rooms.{NamedCells, fresh_named, number_of, registered, registered_at, placed_at, woken_by as cell_woken_by, filled_at, filled_named, connected, connected_at, connection_of, connection_at, named_renamed}
 use Rattle.ak_frames.specs.declared.frame.Frame.{Frame}
 use Rattle.ak_frames.specs.declared.frame.Task.{Task}
 use Rattle.ak_trace.specs.declared.entry.Entry.{Entry}
 use Rattle.ak_trace.specs.declared.entry.Entry.TheVariants as entry
 use Rattle.ak_machine.specs.State.{State}
 use Rattle.ak_machine.specs.Cycle.{has_more}
-use Rattle.ak_machine.specs.Deferred.{enqueue, with_ivar, fill_empty, woken_by, register_at, connect_at}
+use Rattle.ak_machine.specs.Deferred.{enqueue, number_at, is_empty, with_ivar, fill_empty, fill_at, fill, woken_by, register_at, register, connect_at, connect}
 use Rattle.ak_machine.specs.Mapped.{task_mapped, frame_mapped, cells_named, state_named}
 use Rattle.ak_machine.proofs.Mapped.{enqueue_named, fill_empty_named, register_at_named, state_named_law}
 use Rattle.ak_machine.proofs.Names.{name_in-own, name_in-renamed, trimmed-fresh, name_in-trimmed, name_in-drawn}
@@ -62,6 +65,10 @@ seen_fill cells q q' t t' i v e =
     (ap (state_named f) (e s ∙ fold_woken v (waiting_on n cells.cells) s) ∙ fill_empty_named f n v (raw_state cells q t))
     ∙ ap (λ x. doing (fill_empty x v) (seen cells q t)) (sym (name_trimmed cells.names i))
 
+-- a number in the state that is seen is the cells' own
+pub number_seen : (cells : NamedCells Frame) (i : ℕ) → number_in (name_in (trimmed cells.names) i) cells.cells ≡ number_of i cells
+number_seen cells i = ap (λ x. number_in x cells.cells) (name_trimmed cells.names i)
+
 keep_at : (o : Option ℤ) → o ≡ None → (n : ℕ) (ctx : Ctx) (frame : Frame) (cells : NamedCells Frame) (q : Queues Task) (t : List Entry) →
     seen (registered_at o n ctx frame cells) q t ≡ seen_as (trimmed cells.names) (state_named (name_in (trimmed cells.names)) (register_at None n ctx frame (raw_state cells q t)))
 keep_at None e n ctx frame cells q t = refl
@@ -75,61 +82,150 @@ seen_keep cells q t i ctx frame e =
     ∙ ap (seen_as (trimmed cells.names)) (register_at_named f None (name_in cells.names i) ctx frame (raw_state cells q t))
     ∙ ap (λ x. doing (register_at None x ctx (frame_mapped f frame)) (seen cells q t)) (sym (name_trimmed cells.names i))
 
--- a number in the state that is seen is the cells' own
-pub number_seen : (cells : NamedCells Frame) (i : ℕ) → number_in (name_in (trimmed cells.names) i) cells.cells ≡ number_of i cells
-number_seen cells i = ap (λ x. number_in x cells.cells) (name_trimmed cells.names i)
+-- ---- a handler, by where the cells put it
+kept_none : (o : Option ℤ) (frame : Frame) (c : Cells Frame) (number : ℕ) → placed_at o frame c ≡ Kept number → o ≡ None
+kept_none None frame c number e = refl
+kept_none (Some v) frame c number e = absurd (cc)
+
+full_some : (o : Option ℤ) (frame frame' : Frame) (c : Cells Frame) (v : ℤ) → placed_at o frame c ≡ Full v frame' → (o ≡ Some v) × (frame' ≡ frame)
+full_some None frame frame' c v e = absurd (cc)
+full_some (Some w) frame frame' c v e = (cc, cc)
+
+-- registering, by what the ivar is full with
+registers_by : (cells : NamedCells Frame) (q : Queues Task) (t : List Entry) (i : ℕ) (ctx : Ctx) (frame : Frame) (o : Option ℤ) → number_of i cells ≡ o →
+    doing (register_at o (name_in (trimmed cells.names) i) ctx frame) (seen cells q t) ≡ doing (register (name_in (trimmed cells.names) i) ctx frame) (seen cells q t)
+registers_by cells q t i ctx frame o e = ap (λ x. doing (register_at x (name_in (trimmed cells.names) i) ctx frame) (seen cells q t)) (sym (number_seen cells i ∙ e))
+
+pub seen_kept : (cells : NamedCells Frame) (q : Queues Task) (t : List Entry) (i : ℕ) (ctx : Ctx) (frame : Frame) (number : ℕ) → placed_at (number_of i cells) frame cells.cells ≡ Kept number →
+    seen (registered i ctx frame cells) q t ≡ doing (register (name_in (trimmed cells.names) i) ctx (frame_mapped (name_in (trimmed cells.names)) frame)) (seen cells q t)
+seen_kept cells q t i ctx frame number p =
+    let e = kept_none (number_of i cells) frame cells.cells number p
+    in seen_keep cells q t i ctx frame e ∙ registers_by cells q t i ctx (frame_mapped (name_in (trimmed cells.names)) frame) None e
+
+pub seen_full : (cells : NamedCells Frame) (q : Queues Task) (t : List Entry) (i : ℕ) (ctx : Ctx) (frame frame' : Frame) (v : ℤ) → placed_at (number_of i cells) frame cells.cells ≡ Full v frame' →
+    doing (enqueue ctx (task_mapped (name_in (trimmed (registered i ctx frame cells).names)) (record { frame = frame'; value = Some v }))) (seen (registered i ctx frame cells) q t)
+    ≡ doing (register (name_in (trimmed cells.names) i) ctx (frame_mapped (name_in (trimmed cells.names)) frame)) (seen cells q t)
+seen_full cells q t i ctx frame frame' v p =
+    let e = full_some (number_of i cells) frame frame' cells.cells v p
+    in ap (λ (c : NamedCells Frame). doing (enqueue ctx (task_mapped (name_in (trimmed c.names)) (record { frame = frame'; value = Some v }))) (seen c q t)) (ap (λ o. registered_at o (name_in cells.names i) ctx frame cells) e.0)
+    ∙ ap (λ (x : Frame). doing (enqueue ctx (task_mapped (name_in (trimmed cells.names)) (record { frame = x; value = Some v }))) (seen cells q t)) e.1
+    ∙ registers_by cells q t i ctx (frame_mapped (name_in (trimmed cells.names)) frame) (Some v) e.0
+
+-- ---- a fill, by whether the ivar is empty
+fills_by : (cells : NamedCells Frame) (q : Queues Task) (t : List Entry) (i : ℕ) (v : ℤ) (o : Option ℤ) → number_of i cells ≡ o →
+    doing (fill_at o (name_in (trimmed cells.names) i) v) (seen cells q t) ≡ doing (fill (name_in (trimmed cells.names) i) v) (seen cells q t)
+fills_by cells q t i v o e = ap (λ x. doing (fill_at x (name_in (trimmed cells.names) i) v) (seen cells q t)) (sym (number_seen cells i ∙ e))
+
+pub seen_filled : (cells : NamedCells Frame) (q q' : Queues Task) (t t' : List Entry) (i : ℕ) (v : ℤ) → number_of i cells ≡ None →
+    ((s : State) → with_jobs q' t' s ≡ fold enqueued_for (with_jobs q (t ++ entry.Fill (name_in cells.names i) v ∷ []) s) (filled_named i v cells).woken) →
+    seen (record (filled_named i v cells) { woken = [] }) q' t' ≡ doing (fill (name_in (trimmed cells.names) i) v) (seen cells q t)
+seen_filled cells q q' t t' i v e jobs = seen_fill cells q q' t t' i v jobs ∙ fills_by cells q t i v None e
+
+unfilled_at : (o : Option ℤ) → (o ≡ None → ⊥) → (n : ℕ) (v : ℤ) (s : Seen) → s ≡ doing (fill_at o n v) s
+unfilled_at None e n v s = absurd (e refl)
+unfilled_at (Some w) e n v s = refl
+
+pub seen_unfilled : (cells : NamedCells Frame) (q : Queues Task) (t : List Entry) (i : ℕ) (v : ℤ) → (number_of i cells ≡ None → ⊥) → seen cells q t ≡ doing (fill (name_in (trimmed cells.names) i) v) (seen cells q t)
+seen_unfilled cells q t i v e = unfilled_at (number_of i cells) e (name_in (trimmed cells.names) i) v (seen cells q t) ∙ fills_by cells q t i v (number_of i cells) refl
+
+none_at : (o : Option ℤ) → o ≡ None → true ≡ is_none o
+none_at None e = refl
+none_at (Some v) e = absurd (cc)
+
+some_at : (o : Option ℤ) → (o ≡ None → ⊥) → false ≡ is_none o
+some_at None e = absurd (e refl)
+some_at (Some v) e = refl
+
+pub empty_seen : (cells : NamedCells Frame) (q : Queues Task) (t : List Entry) (i : ℕ) → number_of i cells ≡ None → true ≡ is_empty (name_in (trimmed cells.names) i) (seen cells q t).plain
+empty_seen cells q t i e = none_at (number_in (name_in (trimmed cells.names) i) cells.cells) (number_seen cells i ∙ e)
+
+pub full_seen : (cells : NamedCells Frame) (q : Queues Task) (t : List Entry) (i : ℕ) → (number_of i cells ≡ None → ⊥) → false ≡ is_empty (name_in (trimmed cells.names) i) (seen cells q t).plain
+full_seen cells q t i e = some_at (number_in (name_in (trimmed cells.names) i) cells.cells) (λ h. e (sym (number_seen cells i) ∙ h))
 
 -- one woken handler less
 pub next_turn : (ws : List (Woken Frame)) (w : Woken Frame) → first_of ws ≡ Some w → (s : State) → fold enqueued_for (enqueued_for s w) (rest_of ws) ≡ fold enqueued_for s ws
 next_turn [] w e s = absurd (cc)
 next_turn (x ∷ xs) w e s = let h : w ≡ x = cc in ap (λ y. fold enqueued_for (enqueued_for s y) xs) h
 
-joined_at : (b : Bool) → b ≡ false → (o p : Option ℤ) → o ≡ None → p ≡ None → (r s : ℕ) (cells : NamedCells Frame) → cond b cells (connected_at o p r s cells) ≡ named_renamed s r cells
-joined_at true e o p h k r s cells = absurd (cc)
-joined_at false e None None h k r s cells = refl
-joined_at false e None (Some v) h k r s cells = absurd (cc)
-joined_at false e (Some w) p h k r s cells = absurd (cc)
+-- ---- a connection, by what the cells answer
+abbrev cells_after : Connected → ℕ → ℕ → NamedCells Frame → NamedCells Frame
+cells_after Same n m c = c
+cells_after ResultFull n m c = c
+cells_after (Filled v) n m c = filled_at n v c
+cells_after Joined n m c = named_renamed m n c
 
-plain_join : (cells : NamedCells Frame) (q : Queues Task) (t : List Entry) (r i : ℕ) →
-    name_in cells.names i < length cells.names → (name_in cells.names r == name_in cells.names i) ≡ false → number_of r cells ≡ None → number_of i cells ≡ None →
-    (seen (connected r i cells) q (t ++ entry.Join (name_in cells.names r) (name_in cells.names i) ∷ [])).plain
-    ≡ connect_at None None (name_in cells.names r) (name_in cells.names i) (seen cells q t).plain
-plain_join cells q t r i h e o p =
-    let to : ℕ = name_in cells.names r
-    in let from : ℕ = name_in cells.names i
-    in let f : ℕ → ℕ = name_in (trimmed cells.names)
+abbrev state_after : Connected → ℕ → ℕ → State → State
+state_after Same n m s = s
+state_after ResultFull n m s = s
+state_after (Filled v) n m s = fill_empty n v s
+state_after Joined n m s = connect_at None None n m s
+
+cells_by : (b : Bool) (o p : Option ℤ) (n m : ℕ) (c : NamedCells Frame) → cond b c (connected_at o p n m c) ≡ cells_after (cond b Same (connection_at o p)) n m c
+cells_by true o p n m c = refl
+cells_by false None None n m c = refl
+cells_by false None (Some v) n m c = refl
+cells_by false (Some w) p n m c = refl
+
+state_by : (b : Bool) (o p : Option ℤ) (n m : ℕ) (s : State) → o ≡ number_at n s → cond b s (connect_at o p n m s) ≡ state_after (cond b Same (connection_at o p)) n m s
+state_by true o p n m s e = refl
+state_by false None None n m s e = refl
+state_by false None (Some v) n m s e = ap (λ (x : Option ℤ). fill_at x n v s) (sym e)
+state_by false (Some w) p n m s e = refl
+
+pub connected_is : (cells : NamedCells Frame) (r i : ℕ) (c : Connected) → connection_of r i cells ≡ c → connected r i cells ≡ cells_after c (name_in cells.names r) (name_in cells.names i) cells
+connected_is cells r i c e =
+    cells_by (name_in cells.names r == name_in cells.names i) (number_of r cells) (number_of i cells) (name_in cells.names r) (name_in cells.names i) cells
+    ∙ ap (λ (x : Connected). cells_after x (name_in cells.names r) (name_in cells.names i) cells) e
+
+pub connect_is : (cells : NamedCells Frame) (q : Queues Task) (t : List Entry) (r i : ℕ) (c : Connected) → connection_of r i cells ≡ c →
+    state_after c (name_in cells.names r) (name_in cells.names i) (seen cells q t).plain ≡ connect (name_in (trimmed cells.names) r) (name_in (trimmed cells.names) i) (seen cells q t).plain
+connect_is cells q t r i c e =
+    let s : State = (seen cells q t).plain
+    in let n : ℕ = name_in cells.names r
+    in let m : ℕ = name_in cells.names i
+    in ap (λ (x : Connected). state_after x n m s) (sym e)
+    ∙ sym (state_by (n == m) (number_of r cells) (number_of i cells) n m s refl)
+    ∙ ap (λ x. connect x m s) (sym (name_trimmed cells.names r))
+    ∙ ap (λ y. connect (name_in (trimmed cells.names) r) y s) (sym (name_trimmed cells.names i))
+
+-- the result has the number of the right side
+pub seen_taken : (cells : NamedCells Frame) (q q' : Queues Task) (t t' : List Entry) (r i : ℕ) (v : ℤ) → connection_of r i cells ≡ Filled v →
+    ((s : State) → with_jobs q' t' s ≡ fold enqueued_for (with_jobs q (t ++ entry.Fill (name_in cells.names r) v ∷ []) s) (connected r i cells).woken) →
+    (seen (record (connected r i cells) { woken = [] }) q' t').plain ≡ connect (name_in (trimmed cells.names) r) (name_in (trimmed cells.names) i) (seen cells q t).plain
+seen_taken cells q q' t t' r i v e jobs =
+    let is = connected_is cells r i (Filled v) e
+    in ap (λ (c : NamedCells Frame). (seen (record c { woken = [] }) q' t').plain) is
+    ∙ ap (λ (x : Seen). x.plain)
+    (seen_fill cells q q' t t' r v
+    (subst (λ (c : NamedCells Frame). (s : State) → with_jobs q' t' s ≡ fold enqueued_for (with_jobs q (t ++ entry.Fill (name_in cells.names r) v ∷ []) s) c.woken) is jobs))
+    ∙ ap (λ n. fill_empty n v (seen cells q t).plain) (name_trimmed cells.names r)
+    ∙ connect_is cells q t r i (Filled v) e
+
+-- the right side has the name of the result
+plain_join : (cells : NamedCells Frame) (q : Queues Task) (t : List Entry) (to from i : ℕ) → from ≡ name_in cells.names i → name_in cells.names i < length cells.names →
+    (seen (named_renamed from to cells) q (t ++ entry.Join to from ∷ [])).plain ≡ connect_at None None to from (seen cells q t).plain
+plain_join cells q t to from i is h =
+    let f : ℕ → ℕ = name_in (trimmed cells.names)
     in let t' : List Entry = t ++ entry.Join to from ∷ []
-    in ap (λ (c : NamedCells Frame). (seen c q t').plain) (joined_at (to == from) e (number_of r cells) (number_of i cells) o p to from cells)
-    ∙ ap (λ g. state_named g (raw_state (named_renamed from to cells) q t'))
-    (name_in-trimmed (named_renamed from to cells).names ∙ name_in-renamed cells.names from to h ∙ ap (λ g. λ (x : ℕ). renamed from to (g x)) (sym (name_in-trimmed cells.names)))
+    in ap (λ g. state_named g (raw_state (named_renamed from to cells) q t'))
+    (name_in-trimmed (named_renamed from to cells).names ∙ name_in-renamed cells.names from to (subst (λ n. n < length cells.names) (sym is) h) ∙ ap (λ g. λ (x : ℕ). renamed from to (g x)) (sym (name_in-trimmed cells.names)))
     ∙ sym (state_named_law (renamed from to) f (raw_state cells q t'))
 
--- the same by the names that are seen
-pub seen_join : (cells : NamedCells Frame) (q : Queues Task) (t : List Entry) (r i : ℕ) →
-    name_in cells.names i < length cells.names → (name_in (trimmed cells.names) r == name_in (trimmed cells.names) i) ≡ false →
-    number_in (name_in (trimmed cells.names) r) cells.cells ≡ None → number_in (name_in (trimmed cells.names) i) cells.cells ≡ None →
-    (seen (connected r i cells) q (t ++ entry.Join (name_in cells.names r) (name_in cells.names i) ∷ [])).plain
-    ≡ connect_at None None (name_in (trimmed cells.names) r) (name_in (trimmed cells.names) i) (seen cells q t).plain
-seen_join cells q t r i h e o p =
-    plain_join cells q t r i h
-    (ap (λ x. x == name_in cells.names i) (sym (name_trimmed cells.names r)) ∙ ap (λ y. name_in (trimmed cells.names) r == y) (sym (name_trimmed cells.names i)) ∙ e)
-    (sym (number_seen cells r) ∙ o) (sym (number_seen cells i) ∙ p)
-    ∙ ap (λ x. connect_at None None x (name_in cells.names i) (seen cells q t).plain) (sym (name_trimmed cells.names r))
-    ∙ ap (λ y. connect_at None None (name_in (trimmed cells.names) r) y (seen cells q t).plain) (sym (name_trimmed cells.names i))
+pub seen_join : (cells : NamedCells Frame) (q : Queues Task) (t : List Entry) (r i : ℕ) → connection_of r i cells ≡ Joined → name_in cells.names i < length cells.names →
+    (seen (connected r i cells) q (t ++ entry.Join (name_in cells.names r) (name_in cells.names i) ∷ [])).plain ≡ connect (name_in (trimmed cells.names) r) (name_in (trimmed cells.names) i) (seen cells q t).plain
+seen_join cells q t r i e h =
+    ap (λ (c : NamedCells Frame). (seen c q (t ++ entry.Join (name_in cells.names r) (name_in cells.names i) ∷ [])).plain) (connected_is cells r i Joined e)
+    ∙ plain_join cells q t (name_in cells.names r) (name_in cells.names i) i refl h
+    ∙ connect_is cells q t r i Joined e
+
+pub kept_join : (cells : NamedCells Frame) (r i : ℕ) → IsKept cells → connection_of r i cells ≡ Joined → IsKept (connected r i cells)
+kept_join cells r i k e =
+    subst IsKept (sym (connected_is cells r i Joined e))
+    (record { named = length-map cells.names (renamed (name_in cells.names i) (name_in cells.names r)) ∙ k.named; unwoken = k.unwoken })
 
 pub drawn_seen : (cells : NamedCells Frame) → length cells.names ≡ length cells.cells.ivars → (i : ℕ) → name_in (trimmed cells.names) i < length cells.cells.ivars → i < length cells.cells.ivars
 drawn_seen cells e i h =
     subst (λ n. i < n) e (name_in-drawn cells.names i (subst (λ n. name_in cells.names i < n) (sym e) (subst (λ x. x < length cells.cells.ivars) (name_trimmed cells.names i) h)))
-
-pub kept_join : (cells : NamedCells Frame) (r i : ℕ) → IsKept cells →
-    (name_in (trimmed cells.names) r == name_in (trimmed cells.names) i) ≡ false →
-    number_in (name_in (trimmed cells.names) r) cells.cells ≡ None → number_in (name_in (trimmed cells.names) i) cells.cells ≡ None →
-    IsKept (connected r i cells)
-kept_join cells r i k e o p =
-    let d : (name_in cells.names r == name_in cells.names i) ≡ false = ap (λ y. y == name_in cells.names i) (sym (name_trimmed cells.names r)) ∙ ap (λ y. name_in (trimmed cells.names) r == y) (sym (name_trimmed cells.names i)) ∙ e
-    in subst IsKept
-    (sym (joined_at (name_in cells.names r == name_in cells.names i) d (number_of r cells) (number_of i cells) (sym (number_seen cells r) ∙ o) (sym (number_seen cells i) ∙ p) (name_in cells.names r) (name_in cells.names i) cells))
-    (record { named = length-map cells.names (renamed (name_in cells.names i) (name_in cells.names r)) ∙ k.named; unwoken = k.unwoken })
 
 pub seen_pick : (cells : NamedCells Frame) (q : Queues Task) (t : List Entry) → seen cells (picked_from q) t ≡ doing without_pick (seen cells q t)
 seen_pick cells q t = ap (λ (x : Queues Task). seen_as (trimmed cells.names) (record (raw_state (record cells { cells = cells_named (name_in (trimmed cells.names)) cells.cells }) q t) { queues = x })) (sym (picked_mapped (name_in (trimmed cells.names)) q))

@@ -1,9 +1,9 @@
 -- The first statement that is not built.
 use Rattle.std.proofs.Common.{◌≡◌, ℕ, zero, suc, ◌+◌, ◌<◌, List, [], ◌∷◌, ◌++◌, length, take, drop, get_or, refl, sym, ap, ◌∙◌, subst, arith, append_assoc}
-use Rattle.std.specs.List.{AllByRecursion, flat_map}
+use Rattle.std.specs.List.{AllByRecursion}
 use Rattle.ak_program.specs.declared.program.NumStatement.{NumStatement}
 use Rattle.ak_program.specs.declared.program.NumProc.{NumProc}
-use Rattle.ak_exec.specs.Built.{IsBuilt, ProcIsBuilt, AreBuilt, FirstUnbuilt, statements}
+use Rattle.ak_exec.specs.Built.{IsBuilt, AreBuilt, FirstUnbuilt, statements}
 
 pub all_next : {A : Type 0} (P : A → Type 0) (xs : List A) (k : ℕ) (x : A) → k < length xs → x ≡ get_or xs k x → AllByRecursion P (take k xs) → P x → AllByRecursion P (take (k + 1) xs)
 all_next P [] k x h e all p = absurd (omega (arith, h))

@@ -1,26 +1,60 @@
--- A world that is whole stays so when a cycle begins.
-use Rattle.std.proofs.Common.{◌≡◌, ℕ, length, sym, subst}
-use Rattle.std.specs.Prelude.{Option}
+-- A world that is whole stays so.
+use Rattle.std.proofs.Common.{◌≡◌, ℕ, length, refl, sym, subst}
+use Rattle.std.specs.Prelude.{Option, None, IfSome}
 use Rattle.std.specs.Option.{option_map}
 use Rattle.ak_cells.specs.Names.{name_in}
 use Rattle.ak_frames.specs.declared.frame.Task.{Task}
 use Rattle.ak_rings.specs.declared.job.Job.{Job}
 use Rattle.ak_program.specs.Programs.{NumProgram}
 use Rattle.ak_machine.specs.declared.config.Config.{Config}
+use Rattle.ak_trace.specs.declared.entry.Entry.{Entry}
+use Rattle.ak_rings.specs.Queues.{pick_of}
+use Rattle.ak_machine.specs.State.{initial_state}
+use Rattle.ak_machine.specs.Deferred.{noting}
 use Rattle.ak_machine.specs.Cycle.{cycle_begun}
 use Rattle.ak_machine.specs.Mapped.{job_mapped}
-use Rattle.ak_exec.specs.Seen.{Seen, doing}
-use Rattle.ak_exec.specs.Worlds.{Worldly, IsWhole}
-use Rattle.ak_exec.proofs.Fitting.{cycle_grows}
-use Rattle.ak_exec.proofs.Picks.{picked_grows}
+use Rattle.ak_exec.specs.Seen.{Seen, doing, without_pick}
+use Rattle.ak_exec.specs.Fits.{JobFits, Fits}
+use Rattle.ak_exec.specs.Worlds.{IsWhole, world_of}
+use Rattle.ak_exec.proofs.Fitting.{Grows, cycle_grows, noted_grows}
+use Rattle.ak_exec.proofs.Picks.{picked_grows, left_fits, pick_fits}
 
--- a world by its parts
-abbrev pub world_of : NumProgram → Config → ℕ → Option (Job Task) → Seen → Worldly
-world_of program config ran picked s =
-    record { program = program; config = config; plain = s.plain; picked = option_map (job_mapped (name_in s.names)) picked; ran = ran }
+-- the parts are others, which hold as many ivars or more
+grown_whole : (program : NumProgram) (config : Config) (picked : Option (Job Task)) (ran : ℕ) (s s' : Seen) → s'.names ≡ s.names → Grows program.procs s.plain s'.plain → IsWhole (world_of program config s picked ran) → IsWhole (world_of program config s' picked ran)
+grown_whole program config picked ran s s' e g h = record {
+  built = h.built;
+  limit = h.limit;
+  fits = g.fits;
+  picked = subst (λ ns. IfSome (option_map (job_mapped (name_in ns)) picked) (JobFits program.procs (length s'.plain.cells.ivars))) (sym e)
+      (picked_grows program.procs (length s.plain.cells.ivars) (length s'.plain.cells.ivars) g.more (option_map (job_mapped (name_in s.names)) picked) h.picked);
+}
 
-pub cycle_whole : (program : NumProgram) (config : Config) (ran : ℕ) (picked : Option (Job Task)) (s s' : Seen) → s' ≡ doing cycle_begun s → IsWhole (world_of program config ran picked s) → IsWhole (world_of program config ran picked s')
-cycle_whole program config ran picked s s' e h =
-    let g = cycle_grows program.procs s.plain h.fits
-    in subst (λ (x : Seen). IsWhole (world_of program config ran picked x)) (sym e)
-    (record { built = h.built; fits = g.fits; picked = picked_grows program.procs (length s.plain.cells.ivars) (length (cycle_begun s.plain).cells.ivars) g.more (option_map (job_mapped (name_in s.names)) picked) h.picked })
+pub cycle_whole : (program : NumProgram) (config : Config) (picked : Option (Job Task)) (ran : ℕ) (s s' : Seen) → s' ≡ doing cycle_begun s → IsWhole (world_of program config s picked ran) → IsWhole (world_of program config s' picked ran)
+cycle_whole program config picked ran s s' e h =
+    subst (λ (x : Seen). IsWhole (world_of program config x picked ran)) (sym e)
+    (grown_whole program config picked ran s (doing cycle_begun s) refl (cycle_grows program.procs s.plain h.fits) h)
+
+pub noted_whole : (program : NumProgram) (config : Config) (picked : Option (Job Task)) (ran : ℕ) (s s' : Seen) (one : Entry) → s' ≡ doing (noting one) s → IsWhole (world_of program config s picked ran) → IsWhole (world_of program config s' picked ran)
+noted_whole program config picked ran s s' one e h =
+    subst (λ (x : Seen). IsWhole (world_of program config x picked ran)) (sym e)
+    (grown_whole program config picked ran s (doing (noting one) s) refl (noted_grows program.procs one s.plain h.fits) h)
+
+-- a job was picked
+pub picked_whole : (program : NumProgram) (config : Config) (picked : Option (Job Task)) (ran ran' : ℕ) (s s' : Seen) → s' ≡ doing without_pick s → option_map (job_mapped (name_in s.names)) picked ≡ pick_of s.plain.queues → IsWhole (world_of program config s None ran) → IsWhole (world_of program config s' picked ran')
+picked_whole program config picked ran ran' s s' e p h =
+    subst (λ (x : Seen). IsWhole (world_of program config x picked ran')) (sym e)
+    (record {
+      built = h.built;
+      limit = h.limit;
+      fits = left_fits program.procs s.plain h.fits;
+      picked = subst (λ (o : Option (Job Task)). IfSome o (JobFits program.procs (length s.plain.cells.ivars))) (sym p) (pick_fits program.procs (length s.plain.cells.ivars) s.plain h.fits);
+    })
+
+-- nothing is left in it
+pub emptied_whole : (program : NumProgram) (config : Config) (picked : Option (Job Task)) (ran : ℕ) (s s' : Seen) → s'.plain ≡ initial_state config.limit → IsWhole (world_of program config s picked ran) → IsWhole (world_of program config s' None ran)
+emptied_whole program config picked ran s s' e h = record {
+  built = h.built;
+  limit = h.limit;
+  fits = subst (Fits program.procs) (sym e) (record { handlers = tt; normal = tt; low = tt });
+  picked = tt;
+}

@@ -1,15 +1,18 @@
 -- What contracts see of a world.
-use Rattle.std.specs.Prelude.{ℕ, ◌+◌, ◌≡◌, [], length, false, Option, Some, None, IfSome}
+use Rattle.std.specs.Prelude.{ℕ, ◌+◌, ◌≡◌, ◌≤◌, [], length, false, Option, Some, None, IfSome}
+use Rattle.std.specs.Option.{option_map}
 use Rattle.ak_rings.specs.declared.job.Job.{Job}
 use Rattle.ak_frames.specs.declared.frame.Task.{Task}
 use Rattle.ak_machine.specs.declared.config.Config.{Config}
 use Rattle.ak_frames.specs.declared.frame.Ret.TheVariants.{Drop}
 use Rattle.ak_rings.specs.Queues.{pick_of}
+use Rattle.ak_cells.specs.Names.{name_in}
 use Rattle.ak_machine.specs.declared.config.Flow.{Flow}
 use Rattle.ak_machine.specs.State.{State, initial_state}
 use Rattle.ak_machine.specs.Deferred.{called}
+use Rattle.ak_machine.specs.Mapped.{job_mapped}
 use Rattle.ak_machine.specs.Job.{Over, run_job}
-use Rattle.ak_exec.specs.Seen.{without_pick}
+use Rattle.ak_exec.specs.Seen.{Seen, without_pick}
 use Rattle.ak_exec.specs.Steps.{after_is}
 use Rattle.ak_program.specs.Programs.{NumProgram}
 use Rattle.ak_exec.specs.Built.{AreBuilt}
@@ -23,9 +26,15 @@ pub record Worldly : Type 0 where
   pub picked : Option (Job Task)
   pub ran : ℕ
 
--- all that a world holds fits its program, whose statements are built
+-- the world that parts stand for, where these numbers are in the job that was picked
+abbrev pub world_of : NumProgram → Config → Seen → Option (Job Task) → ℕ → Worldly
+world_of program config s picked ran =
+    record { program = program; config = config; plain = s.plain; picked = option_map (job_mapped (name_in s.names)) picked; ran = ran }
+
+-- all that a world holds fits its program, whose statements are built, and a cycle has room for a job
 pub record IsWhole (w : Worldly) : Type 0 where
   pub built : AreBuilt w.program.procs
+  pub limit : 1 ≤ w.config.limit
   pub fits : Fits w.program.procs w.plain
   pub picked : IfSome w.picked (JobFits w.program.procs (length w.plain.cells.ivars))
 

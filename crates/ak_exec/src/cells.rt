@@ -33,30 +33,10 @@ pub fn name(cells: &mut Cells<Frame>, i: IvarNo) -> IvarNo
     name_by::<Brand>(cells, i, Blank::new(1))
 }
 
-fn look_by<L: Ledger>(cells: &mut Cells<Frame>, i: IvarNo, blank: Blank) -> Option<Num>
-    requires ledger { blank.name ≡ L.name }
-    requires parts { blank.parts ≡ L.parts }
-    requires some { 0 < blank.parts }
-    requires drawn { i < length cells.old.named.cells.ivars }
-    ensures number { result ≡ number_of i cells.old.named }
-    ensures same { cells.new ≡ cells.old }
-{
-    cells.look(i, &mut Steps::<L>::new(blank))
-}
-
-/// What the ivar of a number that was drawn is full with: `None` exactly where it is empty.
-pub fn look(cells: &mut Cells<Frame>, i: IvarNo) -> Option<Num>
-    requires { i < length cells.old.named.cells.ivars }
-    ensures number { result ≡ number_of i cells.old.named }
-    ensures same { cells.new ≡ cells.old }
-{
-    look_by::<Brand>(cells, i, Blank::new(1))
-}
-
 fn register_by<L: Ledger>(
     cells: &mut Cells<Frame>,
     i: IvarNo,
-    ctx: Ctx,
+    ctx: &Ctx,
     frame: Frame,
     blank: Blank,
 ) -> Placed<Frame>
@@ -67,18 +47,18 @@ fn register_by<L: Ledger>(
     requires room { 0 < cells.old.spare_handlers }
     requires numbers { cells.old.named.cells.next < 2 ^ 32 - 1 }
     ensures placed { result ≡ placed_at (number_of i cells.old.named) frame cells.old.named.cells }
-    ensures named { cells.new.named ≡ registered i ctx frame cells.old.named }
+    ensures named { cells.new.named ≡ registered i ctx.now frame cells.old.named }
 {
-    cells.register(i, ctx, frame, &mut Steps::<L>::new(blank))
+    cells.register(i, *ctx, frame, &mut Steps::<L>::new(blank))
 }
 
 /// Has a handler wait for an ivar that was drawn and is empty, or gives the frame back with the number.
-pub fn register(cells: &mut Cells<Frame>, i: IvarNo, ctx: Ctx, frame: Frame) -> Placed<Frame>
+pub fn register(cells: &mut Cells<Frame>, i: IvarNo, ctx: &Ctx, frame: Frame) -> Placed<Frame>
     requires drawn { i < length cells.old.named.cells.ivars }
     requires room { 0 < cells.old.spare_handlers }
     requires numbers { cells.old.named.cells.next < 2 ^ 32 - 1 }
     ensures placed { result ≡ placed_at (number_of i cells.old.named) frame cells.old.named.cells }
-    ensures named { cells.new.named ≡ registered i ctx frame cells.old.named }
+    ensures named { cells.new.named ≡ registered i ctx.now frame cells.old.named }
 {
     register_by::<Brand>(cells, i, ctx, frame, Blank::new(1))
 }

@@ -4,11 +4,11 @@ ghost use Rattle.std.specs.Prelude.{◌≡◌, ◌≢◌, ◌+◌, ◌<◌, pos,
 ghost use Rattle.ak_cells.specs.Names.{name_in};
 ghost use Rattle.ak_machine.specs.Effect.{holds};
 ghost use Rattle.ak_machine.specs.Errors.{send as send_of};
-ghost use Rattle.ak_machine.specs.Job.{Over, run_lines as lines_run, run_frame as frame_run, returned as returned_by, lines_of, value_or_zero};
-ghost use Rattle.ak_machine.specs.Mapped.{ret_mapped, frame_mapped, value_mapped};
+ghost use Rattle.ak_machine.specs.Job.{Over, run_lines as lines_run, run_frame as frame_run, run_job as job_run, returned as returned_by, lines_of, value_or_zero};
+ghost use Rattle.ak_machine.specs.Mapped.{ret_mapped, frame_mapped, value_mapped, job_mapped};
 ghost use Rattle.ak_machine.specs.Statement.{line_effect};
 ghost use Rattle.ak_exec.specs.Built.{AreBuilt};
-ghost use Rattle.ak_exec.specs.Fits.{Fits, RetFits, CallFits, FrameFits, IsReturned, IsUnderWay};
+ghost use Rattle.ak_exec.specs.Fits.{Fits, RetFits, CallFits, FrameFits, JobFits, IsReturned, IsUnderWay};
 ghost use Rattle.ak_exec.specs.Ready.{named, IsReady, IsTold};
 ghost use Rattle.ak_exec.specs.Steps.{Takes, ended_by, after_is, progress_of, Ends};
 
@@ -20,6 +20,8 @@ use ak_frames::frame::{Frame, Ret, Task};
 use ak_frames::value::{Vals, Value};
 use ak_machine::config::Flow;
 use ak_program::program::{NumPrefix, NumStatement, Program};
+use ak_rings::job::Job;
+use ak_trace::entry::Entry;
 use std::alloc::Global;
 
 /// Whether a line's statement is run.
@@ -60,10 +62,8 @@ fn return_number(parts: &mut Parts, r: IvarNo, num: Num) -> Result<(), NoMemory>
     ensures { OnOk result (parts.new.plain ≡ returned_by (Ret.To (name_in parts.old.names r)) (Value.Num num) parts.old.plain) }
 {
     parts.check_drawn(r);
-    match parts.look(r) {
-        None => parts.fill(r, num),
-        Some(_) => Ok(()),
-    }
+    parts.fill(r, num)?;
+    Ok(())
 }
 
 /// A deferred is returned: it is connected to the result.
@@ -265,4 +265,23 @@ pub fn run_task(
         }
         _ => unreachable!(),
     }
+}
+
+/// A job with its entry, to its end.
+pub fn run_job(
+    alloc: Global,
+    program: &Program,
+    parts: &mut Parts,
+    job: Job<Task>,
+) -> Result<Flow, NoMemory>
+    requires built { AreBuilt program.now.procs }
+    requires job { JobFits program.now.procs (length parts.old.plain.cells.ivars) (job_mapped (name_in parts.old.names) job) }
+    requires fits { Fits program.now.procs parts.old.plain }
+    ensures fits { OnOk result (Fits program.now.procs parts.new.plain) }
+    ensures told { IfOk result (λ flow. Ends flow parts.new.plain.trace) }
+    ensures runs { IfOk result (λ flow. job_run program.now.procs (job_mapped (name_in parts.old.names) job) parts.old.plain ≡ Over (after_is flow parts.new.plain)) }
+{
+    let Job { no, ctx, frame } = job;
+    parts.note(Entry::Job { job: no })?;
+    run_task(alloc, program, parts, ctx, frame)
 }

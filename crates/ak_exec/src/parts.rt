@@ -1,6 +1,6 @@
 //! The parts of the scheduler's state together.
 
-ghost use Rattle.std.specs.Prelude.{◌≡◌, ◌<◌, ◌≤◌, [], ◌∷◌, ◌++◌, length, fold, None, OnOk, IfOk, ◌==◌, false, not, ◌&&◌};
+ghost use Rattle.std.specs.Prelude.{◌≡◌, ◌<◌, ◌≤◌, [], ◌∷◌, ◌++◌, length, fold, None, OnOk, OnErr, IfOk, false, not, ◌&&◌};
 ghost use Rattle.ak_cells.specs.Names.{name_in};
 ghost use Rattle.std.specs.Option.{option_map};
 ghost use Rattle.ak_rings.specs.Queues.{pick_of, has_pick};
@@ -10,7 +10,7 @@ ghost use Rattle.ak_machine.specs.declared.config.Flow.{Flow};
 ghost use Rattle.ak_machine.specs.Errors.{send};
 ghost use Rattle.ak_machine.specs.Status.{ByError, status_of};
 ghost use Rattle.ak_machine.specs.State.{State, initial_state};
-ghost use Rattle.ak_machine.specs.Deferred.{noting, enqueue, with_ivar, number_at as number_at_ivar, fill_empty, register, register_at, connect, connect_at};
+ghost use Rattle.ak_machine.specs.Deferred.{noting, enqueue, with_ivar, is_empty, fill, register, connect};
 ghost use Rattle.ak_machine.specs.Mapped.{task_mapped, job_mapped, frame_mapped, value_mapped, values_mapped};
 ghost use Rattle.ak_machine.specs.Effect.{value_of, number_in, name_in as name_at, args_of, local};
 ghost use Rattle.ak_exec.specs.Seen.{doing, enqueued_for, with_jobs, root_error, without_pick};
@@ -21,7 +21,7 @@ use crate::local::{ivar_of, local_at, num_of};
 use ak_base::list::{Items, NoMemory};
 use ak_base::number::{Ctx, IvarNo, MonNo, Num};
 use ak_cells::cells::Cells;
-use ak_cells::registration::{Placed, Woken};
+use ak_cells::registration::{Connected, Placed, Woken};
 use ak_frames::frame::{Frame, Task};
 use ak_frames::value::{Vals, Value};
 use ak_program::statement::{NumArgs, NumAtom};
@@ -65,7 +65,8 @@ impl Parts {
 
     /// One more entry in the trace.
     pub fn note(&mut self, entry: Entry) -> Result<(), NoMemory>
-        ensures { OnOk result (self.new ≡ doing (noting entry) self.old) }
+        ensures ok { OnOk result (self.new ≡ doing (noting entry) self.old) }
+        ensures err { OnErr result (self.new ≡ self.old) }
     {
         self.trace.push(entry)
     }
@@ -88,66 +89,43 @@ impl Parts {
         Ok(self.cells.fresh())
     }
 
-    /// What an ivar is full with.
-    pub fn look(&mut self, i: IvarNo) -> Option<Num>
-        requires { i < length self.old.plain.cells.ivars }
-        ensures number { result ≡ number_at_ivar (name_in self.old.names i) self.old.plain }
-        ensures same { self.new ≡ self.old }
-    {
-        cells::look(&mut self.cells, i)
-    }
-
-    /// The name of an ivar.
-    pub fn name(&mut self, i: IvarNo) -> IvarNo
-        requires { i < length self.old.plain.cells.ivars }
-        ensures name { result ≡ name_in self.old.names i }
-        ensures drawn { result < length self.old.plain.cells.ivars }
-        ensures same { self.new ≡ self.old }
-    {
-        cells::name(&mut self.cells, i)
-    }
-
     /// The frame waits for an ivar, or is enqueued with its number.
     pub fn register(&mut self, i: IvarNo, ctx: Ctx, frame: Frame) -> Result<(), NoMemory>
         requires { i < length self.old.plain.cells.ivars }
         ensures { OnOk result (self.new ≡ doing (register (name_in self.old.names i) ctx (frame_mapped (name_in self.old.names) frame)) self.old) }
     {
-        match self.look(i) {
-            Some(num) => self.enqueue(
-                ctx,
-                Task {
-                    frame,
-                    value: Some(num),
-                },
-            ),
-            None => self.keep(i, ctx, frame),
+        self.cells.reserve(0, 1)?;
+        match cells::register(&mut self.cells, i, &ctx, frame) {
+            Placed::Kept(_) => Ok(()),
+            Placed::Full { num, frame } => {
+                let value = Some(num);
+                self.enqueue(ctx, Task { frame, value })?;
+                Ok(())
+            }
         }
     }
 
-    fn keep(&mut self, i: IvarNo, ctx: Ctx, frame: Frame) -> Result<(), NoMemory>
-        requires drawn { i < length self.old.plain.cells.ivars }
-        requires empty { number_at_ivar (name_in self.old.names i) self.old.plain ≡ None }
-        ensures { OnOk result (self.new ≡ doing (register_at None (name_in self.old.names i) ctx (frame_mapped (name_in self.old.names) frame)) self.old) }
-    {
-        self.cells.reserve(0, 1)?;
-        let _placed = cells::register(&mut self.cells, i, ctx, frame);
-        Ok(())
-    }
-
-    /// An empty ivar is filled, and its handlers are enqueued.
-    pub fn fill(&mut self, i: IvarNo, num: Num) -> Result<(), NoMemory>
-        requires drawn { i < length self.old.plain.cells.ivars }
-        requires empty { number_at_ivar (name_in self.old.names i) self.old.plain ≡ None }
-        ensures { OnOk result (self.new ≡ doing (fill_empty (name_in self.old.names i) num) self.old) }
+    /// An ivar that is empty is filled, and its handlers are enqueued. The answer is whether it was empty.
+    pub fn fill(&mut self, i: IvarNo, num: Num) -> Result<bool, NoMemory>
+        requires { i < length self.old.plain.cells.ivars }
+        ensures empty { IfOk result (λ was_empty. was_empty ≡ is_empty (name_in self.old.names i) self.old.plain) }
+        ensures filled { OnOk result (self.new ≡ doing (fill (name_in self.old.names i) num) self.old) }
+        ensures full { IfOk result (λ was_empty. was_empty ≡ false → self.new ≡ self.old) }
     {
         let ivar = cells::name(&mut self.cells, i);
-        self.trace.push(Entry::Fill { ivar, num })?;
         match cells::fill(&mut self.cells, i, num) {
-            Ok(()) => {}
-            Err(_) => unreachable!(),
+            Ok(()) => {
+                note_fill(
+                    &mut self.cells,
+                    &mut self.queues,
+                    &mut self.trace,
+                    ivar,
+                    num,
+                )?;
+                Ok(true)
+            }
+            Err(_) => Ok(false),
         }
-        wake_all(&mut self.cells, &mut self.queues, &mut self.trace)?;
-        Ok(())
     }
 
     /// An error at the root, which nobody catches.
@@ -171,31 +149,26 @@ impl Parts {
         requires right_drawn { i < length self.old.plain.cells.ivars }
         ensures { OnOk result (self.new.plain ≡ connect (name_in self.old.names r) (name_in self.old.names i) self.old.plain) }
     {
-        if self.name(r).number() == self.name(i).number() {
-            return Ok(());
-        }
-        match self.look(r) {
-            Some(_) => Ok(()),
-            None => match self.look(i) {
-                Some(num) => self.fill(r, num),
-                None => self.join(r, i),
-            },
-        }
-    }
-
-    fn join(&mut self, r: IvarNo, i: IvarNo) -> Result<(), NoMemory>
-        requires result_drawn { r < length self.old.plain.cells.ivars }
-        requires right_drawn { i < length self.old.plain.cells.ivars }
-        requires differ { (name_in self.old.names r == name_in self.old.names i) ≡ false }
-        requires result_empty { number_at_ivar (name_in self.old.names r) self.old.plain ≡ None }
-        requires right_empty { number_at_ivar (name_in self.old.names i) self.old.plain ≡ None }
-        ensures { OnOk result (self.new.plain ≡ connect_at None None (name_in self.old.names r) (name_in self.old.names i) self.old.plain) }
-    {
         let result = cells::name(&mut self.cells, r);
         let right = cells::name(&mut self.cells, i);
-        self.trace.push(Entry::Join { result, right })?;
-        let _connected = cells::connect(&mut self.cells, r, i);
-        Ok(())
+        match cells::connect(&mut self.cells, r, i) {
+            Connected::Same => Ok(()),
+            Connected::ResultFull => Ok(()),
+            Connected::Filled(num) => {
+                note_fill(
+                    &mut self.cells,
+                    &mut self.queues,
+                    &mut self.trace,
+                    result,
+                    num,
+                )?;
+                Ok(())
+            }
+            Connected::Joined => {
+                self.trace.push(Entry::Join { result, right })?;
+                Ok(())
+            }
+        }
     }
 
     /// Whether there is a job to pick.
@@ -242,9 +215,10 @@ impl Parts {
     pub fn begin_cycle(&mut self) -> Result<(), NoMemory>
         ensures begun { OnOk result (self.new ≡ doing cycle_begun self.old) }
         ensures picks { OnOk result (has_pick self.new.plain.queues ≡ has_more self.old.plain) }
+        ensures err { OnErr result (self.new ≡ self.old) }
     {
-        self.queues.reset();
         self.trace.push(Entry::Cycle)?;
+        self.queues.reset();
         Ok(())
     }
 
@@ -344,6 +318,26 @@ fn push_woken(
         },
     )?;
     Ok(())
+}
+
+/// A fill has its entry, and the handlers that it woke are enqueued. None is woken any more, after want of memory either.
+fn note_fill(
+    cells: &mut Cells<Frame>,
+    queues: &mut Rings<Task>,
+    trace: &mut Trace,
+    ivar: IvarNo,
+    num: Num,
+) -> Result<(), NoMemory>
+    ensures cells { cells.new.named ≡ record cells.old.named { woken = [] } }
+    ensures jobs { OnOk result ((s : State) → with_jobs queues.new.queues trace.new s ≡ fold enqueued_for (with_jobs queues.old.queues (trace.old ++ Entry.Fill ivar num ∷ []) s) cells.old.named.woken) }
+{
+    match trace.push(Entry::Fill { ivar, num }) {
+        Ok(()) => wake_all(cells, queues, trace),
+        Err(e) => {
+            drop_woken(cells);
+            Err(e)
+        }
+    }
 }
 
 /// The woken handlers are enqueued, the oldest first. None is woken any more, after want of memory either.

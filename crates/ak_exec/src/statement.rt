@@ -1,7 +1,8 @@
 //! What each statement does.
 
 ghost use Rattle.std.specs.Prelude.{◌≡◌, length, IfOk, OnOk};
-ghost use Rattle.ak_machine.specs.Effect.{local};
+ghost use Rattle.ak_machine.specs.Deferred.{called};
+ghost use Rattle.ak_machine.specs.Effect.{local, args_of, Goes};
 ghost use Rattle.ak_machine.specs.Statement.{effect_of};
 ghost use Rattle.ak_exec.specs.Ready.{named, IsNumAt, IsDeferredAt, IsBound, AreBound, IsReady};
 ghost use Rattle.ak_exec.specs.Steps.{Takes};
@@ -96,12 +97,10 @@ fn fill(parts: &mut Parts, ctx: Ctx, vals: &Vals, i: usize, a: NumAtom) -> Resul
 {
     let ivar = parts.deferred_at(vals, i);
     let num = parts.number_at(vals, a);
-    match parts.look(ivar) {
-        None => {
-            parts.fill(ivar, num)?;
-            Ok(Step::Goes)
-        }
-        Some(_) => Ok(Step::Raises(FULL_IVAR)),
+    if parts.fill(ivar, num)? {
+        Ok(Step::Goes)
+    } else {
+        Ok(Step::Raises(FULL_IVAR))
     }
 }
 
@@ -113,13 +112,8 @@ fn offer(parts: &mut Parts, ctx: Ctx, vals: &Vals, i: usize, a: NumAtom) -> Resu
 {
     let ivar = parts.deferred_at(vals, i);
     let num = parts.number_at(vals, a);
-    match parts.look(ivar) {
-        None => {
-            parts.fill(ivar, num)?;
-            Ok(Step::Goes)
-        }
-        Some(_) => Ok(Step::Goes),
-    }
+    parts.fill(ivar, num)?;
+    Ok(Step::Goes)
 }
 
 fn upon(
@@ -181,7 +175,8 @@ fn bind(
     Ok(Step::Goes)
 }
 
-fn sched(
+/// A job that calls a procedure, of low priority or not.
+fn call(
     alloc: Global,
     parts: &mut Parts,
     ctx: Ctx,
@@ -190,7 +185,7 @@ fn sched(
     args: &NumArgs,
 ) -> Result<Step, NoMemory>
     requires { AreBound (named parts.old vals.now) args.now }
-    ensures takes { IfOk result (λ step. Takes (effect_of ctx (NumStmt.Sched proc args.now) parts.old.plain (named parts.old vals.now)) step parts.old parts.new vals.now) }
+    ensures takes { IfOk result (λ step. Takes (Goes (called ctx proc (args_of (named parts.old vals.now) args.now) Ret.Drop parts.old.plain) (named parts.old vals.now)) step parts.old parts.new vals.now) }
     ensures names { OnOk result (parts.new.names ≡ parts.old.names) }
 {
     let vals = parts.args_at(alloc, vals, args)?;
@@ -199,29 +194,7 @@ fn sched(
         vals,
         ret: Ret::Drop,
     };
-    parts.enqueue(Ctx { low: false, ..ctx }, Task { frame, value: None })?;
-    Ok(Step::Goes)
-}
-
-fn low(
-    alloc: Global,
-    parts: &mut Parts,
-    ctx: Ctx,
-    vals: &Vals,
-    proc: usize,
-    args: &NumArgs,
-) -> Result<Step, NoMemory>
-    requires { AreBound (named parts.old vals.now) args.now }
-    ensures takes { IfOk result (λ step. Takes (effect_of ctx (NumStmt.Low proc args.now) parts.old.plain (named parts.old vals.now)) step parts.old parts.new vals.now) }
-    ensures names { OnOk result (parts.new.names ≡ parts.old.names) }
-{
-    let vals = parts.args_at(alloc, vals, args)?;
-    let frame = Frame::Call {
-        proc,
-        vals,
-        ret: Ret::Drop,
-    };
-    parts.enqueue(Ctx { low: true, ..ctx }, Task { frame, value: None })?;
+    parts.enqueue(ctx, Task { frame, value: None })?;
     Ok(Step::Goes)
 }
 
@@ -261,8 +234,12 @@ pub fn run_statement(
         NumStmt::Offer { i, a } => offer(parts, ctx, vals, *i, *a),
         NumStmt::Upon { d, proc, args } => upon(alloc, parts, ctx, vals, *d, *proc, args),
         NumStmt::Bind { r, d, proc, args } => { bind(alloc, parts, ctx, vals, *r, *d, *proc, args) }
-        NumStmt::Sched { proc, args } => sched(alloc, parts, ctx, vals, *proc, args),
-        NumStmt::Low { proc, args } => low(alloc, parts, ctx, vals, *proc, args),
+        NumStmt::Sched { proc, args } => {
+            call(alloc, parts, Ctx { low: false, ..ctx }, vals, *proc, args)
+        }
+        NumStmt::Low { proc, args } => {
+            call(alloc, parts, Ctx { low: true, ..ctx }, vals, *proc, args)
+        }
         NumStmt::Never { r } => never(parts, ctx, vals, *r),
         NumStmt::Raise { a } => raise(parts, ctx, vals, *a),
         NumStmt::Ret { a } => ret(parts, ctx, vals, *a),

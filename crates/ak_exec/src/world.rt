@@ -1,6 +1,6 @@
 //! The scheduler's state with its program, and the calls that a cycle is made of.
 
-ghost use Rattle.std.specs.Prelude.{◌≡◌, ◌≤◌, ◌<◌, not, IsSome, None, OnOk, IfOk, ◌&&◌, nat_le, false};
+ghost use Rattle.std.specs.Prelude.{◌≡◌, ◌≤◌, ◌<◌, not, IsSome, None, OnOk, OnErr, IfOk, ◌&&◌, nat_le, false};
 ghost use Rattle.std.specs.Option.{option_map};
 ghost use Rattle.ak_base.specs.Lists.{is_empty_list};
 ghost use Rattle.ak_rings.specs.Queues.{pick_of, has_pick};
@@ -8,9 +8,9 @@ ghost use Rattle.ak_machine.specs.Cycle.{cycle_begun, has_more, is_stuck};
 ghost use Rattle.ak_machine.specs.Deferred.{noting};
 ghost use Rattle.ak_exec.specs.Built.{AreBuilt};
 ghost use Rattle.ak_exec.specs.Steps.{Ends};
-ghost use Rattle.ak_exec.specs.Worlds.{IsWhole, with_pick, with_state, first_state, RunsJob};
+ghost use Rattle.ak_exec.specs.Worlds.{with_pick, with_state, first_state, RunsJob};
 
-use crate::job::run_task;
+use crate::job::run_job;
 use crate::parts::Parts;
 use ak_base::list::{Items, NoMemory};
 use ak_base::number::{Ctx, JobNo, MonNo};
@@ -35,20 +35,13 @@ pub struct World {
 }
 
 impl Model for World {
-    ghost use Rattle.std.specs.Option.{option_map};
-    ghost use Rattle.ak_cells.specs.Names.{name_in};
-    ghost use Rattle.ak_machine.specs.Mapped.{job_mapped};
-    ghost use Rattle.ak_exec.specs.Worlds.{Worldly};
+    ghost use Rattle.ak_exec.specs.Worlds.{Worldly, IsWhole, world_of};
 
     ghost Value = { Worldly };
 
-    ghost view = { λ w. record {
-      program = w.program;
-      config = w.config;
-      plain = w.parts.plain;
-      picked = option_map (job_mapped (name_in w.parts.names)) w.picked;
-      ran = w.ran;
-    } };
+    ghost view = { λ w. world_of w.program w.config w.parts w.picked w.ran };
+
+    ghost invariant = { λ w. IsWhole (world_of w.program w.config w.parts w.picked w.ran) };
 }
 
 impl World {
@@ -62,7 +55,6 @@ impl World {
         requires built { AreBuilt program.procs }
         requires limit { 1 ≤ config.limit }
         ensures world { IfOk result (λ world. world ≡ record { program = program; config = config; plain = first_state program config; picked = None; ran = 0 }) }
-        ensures whole { IfOk result IsWhole }
     {
         let mut parts = Parts::make(alloc, config.limit);
         let ctx = Ctx {
@@ -107,7 +99,6 @@ pub fn pick(world: &mut World) -> Option<JobNo>
     requires unspent { world.old.ran < world.old.config.jobs }
     ensures number { result ≡ option_map (λ job. job.no) (pick_of world.old.plain.queues) }
     ensures world { world.new ≡ with_pick world.old }
-    ensures whole { IsWhole world.old → IsWhole world.new }
 {
     prove!(world.ran < world.config.jobs);
     match world.parts.pick() {
@@ -128,29 +119,31 @@ pub fn pick(world: &mut World) -> Option<JobNo>
 /// `NoMemory`. The world is given up then.
 pub fn run_frame(world: &mut World) -> Result<Flow, NoMemory>
     requires picked { IsSome world.old.picked }
-    requires whole { IsWhole world.old }
     ensures runs { IfOk result (λ flow. RunsJob world.old flow world.new.plain) }
     ensures told { IfOk result (λ flow. Ends flow world.new.plain.trace) }
     ensures world { OnOk result (world.new ≡ record world.old { plain = world.new.plain; picked = None }) }
-    ensures whole { OnOk result (IsWhole world.new) }
 {
-    let Some(Job { no, ctx, frame }) = world.picked.take() else {
+    let Some(job) = world.picked.take() else {
         unreachable!()
     };
-    world.parts.note(Entry::Job { job: no })?;
-    run_task(world.alloc, &world.program, &mut world.parts, ctx, frame)
+    match run_job(world.alloc, &world.program, &mut world.parts, job) {
+        Ok(flow) => Ok(flow),
+        Err(e) => {
+            world.parts = Parts::make(world.alloc, world.config.limit);
+            Err(e)
+        }
+    }
 }
 
 /// Begins a cycle. There is a job to pick then exactly where something was left to do.
 ///
 /// # Errors
 ///
-/// `NoMemory`. The world is given up then.
+/// `NoMemory`. The world is then as before.
 pub fn begin_cycle(world: &mut World) -> Result<(), NoMemory>
-    requires { IsWhole world.old }
     ensures world { OnOk result (world.new ≡ with_state (cycle_begun world.old.plain) world.old) }
     ensures picks { OnOk result (has_pick world.new.plain.queues ≡ has_more world.old.plain) }
-    ensures whole { OnOk result (IsWhole world.new) }
+    ensures err { OnErr result (world.new ≡ world.old) }
 {
     world.parts.begin_cycle()?;
     Ok(())
@@ -183,11 +176,13 @@ pub fn stuck(world: &World) -> bool
 ///
 /// # Errors
 ///
-/// `NoMemory`. The world is given up then.
+/// `NoMemory`. The world is then as before.
 pub fn finish(world: &mut World, why: Ending) -> Result<(), NoMemory>
-    ensures { OnOk result (world.new ≡ with_state (noting (Entry.End why) world.old.plain) world.old) }
+    ensures ok { OnOk result (world.new ≡ with_state (noting (Entry.End why) world.old.plain) world.old) }
+    ensures err { OnErr result (world.new ≡ world.old) }
 {
-    world.parts.note(Entry::End { why })
+    world.parts.note(Entry::End { why })?;
+    Ok(())
 }
 
 /// The trace.

@@ -4,17 +4,17 @@ use Rattle.ak_labor.proofs.Faults.{IsAsked-fault}
 use Rattle.ak_machine.specs.Run.{run_of}
 use Rattle.ak_machine.specs.declared.config.Config.{Config}
 use Rattle.ak_program.specs.Programs.{NumProgram}
-use Rattle.ak_cycle.specs.Runs.{WantsLast}
+use Rattle.ak_cycle.specs.Runs.{WantsLast, WantsNext, IsNoMemory}
 use Rattle.ak_cycle.specs.Turns.{IsAt}
-use Rattle.ak_cycle.proofs.Under.{wants_close}
+use Rattle.ak_cycle.proofs.Under.{wants_close, wants_unasked, unasked}
 use Rattle.ak_cycle.proofs.cycle.run.Goals as goal
 
 pub returns-in_err-on-clause-fault : goal.returns-in_err-on-clause-fault
 returns-in_err-on-clause-fault g c fault =
     let failed : IsFault c.turn.result = search rules
     in let wants = c.turn.ensures.fault failed
-    in subst (λ (p : NumProgram). WantsLast (run_of p.procs p.main c.args.config (g.P.Port.replies c.turn.new.port)) (g.P.Port.asked c.turn.new.port) (g.P.Port.waits c.turn.new.port)) c.loop-on.invariant.at.program_is
-    (subst (λ (k : Config). WantsLast (run_of c.loop-on.world.program.procs c.loop-on.world.program.main k (g.P.Port.replies c.turn.new.port)) (g.P.Port.asked c.turn.new.port) (g.P.Port.waits c.turn.new.port)) c.loop-on.invariant.at.config_is wants)
+    in subst (λ (p : NumProgram). WantsLast (run_of p.procs p.main c.args.config (g.P.Port.replies c.turn.new.port)) (g.P.Port.asked c.turn.new.port) (g.P.Port.replies c.turn.new.port) (g.P.Port.waits c.turn.new.port)) c.loop-on.invariant.at.program_is
+    (subst (λ (k : Config). WantsLast (run_of c.loop-on.world.program.procs c.loop-on.world.program.main k (g.P.Port.replies c.turn.new.port)) (g.P.Port.asked c.turn.new.port) (g.P.Port.replies c.turn.new.port) (g.P.Port.waits c.turn.new.port)) c.loop-on.invariant.at.config_is wants)
 
 pub returns-in_err-close-clause-fault : goal.returns-in_err-close-clause-fault
 returns-in_err-close-clause-fault g c fault =
@@ -24,3 +24,16 @@ returns-in_err-close-clause-fault g c fault =
     in wants_close c.args.program c.args.config c.loop-on.world _ _ _ _ _ _
     (subst (λ b. IsAt b c.args.program c.args.config c.loop-on.world (g.P.Port.asked c.loop-on.port) (g.P.Port.replies c.loop-on.port) (g.P.Port.waits c.loop-on.port)) off c.loop-on.invariant.at)
     call.0 call.1 c.close.ensures.waits
+
+pub returns-in_err-on-clause-memory : goal.returns-in_err-on-clause-memory
+returns-in_err-on-clause-memory g c short =
+    let failed : IsNoMemory c.turn.result = search rules
+    in let wants = c.turn.ensures.memory failed
+    in subst (λ (p : NumProgram). WantsNext (run_of p.procs p.main c.args.config (g.P.Port.replies c.turn.new.port)) (g.P.Port.asked c.turn.new.port) (g.P.Port.replies c.turn.new.port) (g.P.Port.waits c.turn.new.port)) c.loop-on.invariant.at.program_is
+    (subst (λ (k : Config). WantsNext (run_of c.loop-on.world.program.procs c.loop-on.world.program.main k (g.P.Port.replies c.turn.new.port)) (g.P.Port.asked c.turn.new.port) (g.P.Port.replies c.turn.new.port) (g.P.Port.waits c.turn.new.port)) c.loop-on.invariant.at.config_is wants)
+
+pub returns-in_err-close-clause-memory : goal.returns-in_err-close-clause-memory
+returns-in_err-close-clause-memory g c short =
+    let failed : IsNoMemory c.close.result = search rules
+    in let call = unasked _ _ _ _ _ _ _ c.close.ensures.asked failed
+    in wants_unasked _ c.args.program c.args.config c.loop-on.world _ _ _ _ _ _ c.loop-on.invariant.at call.0 call.1 c.close.ensures.waits

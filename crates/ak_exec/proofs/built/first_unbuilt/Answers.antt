@@ -1,6 +1,4 @@
-use Rattle.std.proofs.Common.{◌≡◌, ◌<◌, length, get_or, rules}
-use Rattle.std.specs.List.{AllByRecursion}
-use Rattle.ak_exec.specs.Built.{AreBuilt}
+use Rattle.std.proofs.Common.{◌<◌, length, rules}
 use Rattle.ak_exec.proofs.Unbuilt.{unbuilt_in}
 use Rattle.ak_exec.proofs.built.first_unbuilt.Goals as goal
 
