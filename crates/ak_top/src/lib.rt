@@ -1,6 +1,7 @@
 //! The top call: command words, a script from a source, and its run to a sink.
 #![tactic(auto)]
 
+pub mod check;
 pub mod no_works;
 pub mod reading;
 pub mod running;

@@ -1,21 +1,21 @@
 //! The top call.
 
-ghost use Rattle.std.specs.Prelude.{◌≡◌, ◌≢◌, ◌≤◌, ◌↔◌, ◌⊎◌, ℕ, [], false, OnOk, OnErr, IfOk, codes, slice_get, Some};
+ghost use Rattle.std.specs.Prelude.{◌≡◌, ◌≢◌, ◌≤◌, ◌↔◌, ◌⊎◌, ℕ, [], false, OnOk, OnErr};
 ghost use Rattle.ak_base.specs.Streams.{Rose, grown, TookBeginning};
 ghost use Rattle.ak_cycle.specs.Turns.{IsFinished};
 ghost use Rattle.ak_machine.specs.Status.{status_of};
 ghost use Rattle.ak_words.specs.declared.command.Command.{Command as Order};
-ghost use Rattle.ak_words.specs.declared.command.Command.TheVariants.{Run, Check};
 ghost use Rattle.ak_words.specs.Words.{Means, IsCommand, IsUsageFault};
-ghost use Rattle.ak_top.specs.Output.{output, output_of, valid_line};
+ghost use Rattle.ak_top.specs.Output.{output, output_of};
 ghost use Rattle.ak_top.specs.Refusals.{TellsScript};
-ghost use Rattle.ak_top.specs.Reports.{is_carried_out, Took, Reports, ReportsRun, ReportsCheck, EndsWell};
+ghost use Rattle.ak_top.specs.Reports.{is_carried_out, Took, Reports, ReportsRun, EndsWell};
 ghost use Rattle.ak_top.specs.Status.{status_by};
 
-use crate::running::{Ran, check_source, run_source};
+use crate::check::{check_command, without_run};
+use crate::running::{Ran, run_source};
 use crate::status::{Report, Status, status_of_trace};
 use ak_base::buffer::Buffer;
-use ak_base::list::{Items, Word};
+use ak_base::list::Word;
 use ak_base::sink::{Sink, WriteFailed};
 use ak_base::source::Source;
 use ak_history::event::History;
@@ -67,17 +67,6 @@ pub fn top<S: Source, K: Sink>(
     }
 }
 
-// The report of a command without a run.
-fn without_run(alloc: Global, status: Status) -> Report
-    ensures { result ≡ record { status = status; trace = []; history = [] } }
-{
-    Report {
-        status,
-        trace: Items::make(alloc),
-        history: Items::make(alloc),
-    }
-}
-
 // Reads a script, runs it and writes what comes of it.
 fn run_command<S: Source, K: Sink>(
     alloc: Global,
@@ -120,37 +109,6 @@ fn write_run<K: Sink>(ran: Ran, sink: &mut K) -> Report
         trace,
         history,
     }
-}
-
-// Reads a script, tests it and writes that it is valid.
-fn check_command<S: Source, K: Sink>(alloc: Global, source: &mut S, sink: &mut K) -> Report
-    ensures reports { ReportsCheck (S.left source.old) result }
-    ensures took { Took result.status (K.taken sink.old) (K.taken sink.new) valid_line }
-    ensures read_fault { result.status ≡ Status.ReadFault → Rose (S.faults source.old) (S.faults source.new) }
-    ensures write_fault { result.status ≡ Status.WriteFault → Rose (K.faults sink.old) (K.faults sink.new) }
-    ensures source_faults { S.faults source.old ≤ S.faults source.new }
-    ensures sink_faults { K.faults sink.old ≤ K.faults sink.new }
-{
-    match check_source(alloc, source) {
-        Ok(()) => match write_valid(sink) {
-            Ok(()) => without_run(alloc, Status::Done),
-            Err(WriteFailed) => without_run(alloc, Status::WriteFault),
-        },
-        Err(stop) => without_run(alloc, stop.status()),
-    }
-}
-
-// Writes the line of a script without a fault.
-fn write_valid<K: Sink>(sink: &mut K) -> Result<(), WriteFailed>
-    ensures takes { OnOk result (K.taken sink.new ≡ grown (K.taken sink.old) valid_line) }
-    ensures begins { OnErr result (TookBeginning (K.taken sink.old) (K.taken sink.new) valid_line) }
-    ensures never_falls { K.faults sink.old ≤ K.faults sink.new }
-    ensures cause { OnErr result (Rose (K.faults sink.old) (K.faults sink.new)) }
-{
-    let mut buffer = Buffer::new();
-    buffer.put(sink, b"valid\n")?;
-    buffer.flush(sink)?;
-    Ok(())
 }
 
 // Writes the text of a trace and of a history.

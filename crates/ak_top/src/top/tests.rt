@@ -1,10 +1,8 @@
 // Commands, with sources and sinks in memory.
 
-ghost use Rattle.std.specs.Prelude.{◌<◌};
-
 use super::*;
 use crate::status::message;
-use ak_base::list::NoMemory;
+use ak_base::list::{Items, NoMemory};
 use ak_base::memory::{MemSink, MemSource};
 
 const SCRIPT: &str = "proc main; print 7; end";
@@ -15,9 +13,12 @@ fn word(alloc: Global, text: &str) -> Result<Word, NoMemory> {
     Ok(Items::from_vec(Vec::from_slice(alloc, text.as_bytes())?))
 }
 
-// Lines that are told with `; ` between them.
+// Lines that are told with `; ` between them; none where nothing is told.
 fn lines(alloc: Global, text: &str) -> Result<Vec<u8>, NoMemory> {
     let mut bytes = Vec::new(alloc);
+    if text.is_empty() {
+        return Ok(bytes);
+    }
     for line in text.split("; ") {
         bytes.extend_from_slice(line.as_bytes())?;
         bytes.push(b'\n')?;
@@ -25,26 +26,42 @@ fn lines(alloc: Global, text: &str) -> Result<Vec<u8>, NoMemory> {
     Ok(bytes)
 }
 
-// The status of the command with these words, and what the sink took: pieces of so many bytes, and calls that fail.
-fn command_gives(
+// The status of the command with these words, and what the sink took.
+fn outcome(
     alloc: Global,
     words: &[&str],
-    script: Vec<u8>,
-    piece: usize,
-    failing_reads: Vec<u32>,
-    failing_writes: Vec<u32>,
-) -> Result<(Status, Vec<u8>), NoMemory>
-    requires { 0 < piece }
-{
+    mut source: MemSource,
+    mut sink: MemSink,
+) -> Result<(Status, Vec<u8>), NoMemory> {
     let mut list = Vec::new(alloc);
     for text in words {
         list.push(word(alloc, text)?)?;
     }
-    let mut source = MemSource::make(script, piece, failing_reads);
-    let mut sink = MemSink::make(alloc, 10_000, piece, failing_writes)?;
     let report = top(alloc, list.as_slice(), &mut source, &mut sink);
     let taken = Vec::from_slice(alloc, sink.taken())?;
     Ok((report.status, taken))
+}
+
+// The same with ample room and no faults.
+fn command_gives(
+    alloc: Global,
+    words: &[&str],
+    script: Vec<u8>,
+) -> Result<(Status, Vec<u8>), NoMemory> {
+    let source = MemSource::make(script, 4096, Vec::new(alloc));
+    let sink = MemSink::make(alloc, 4_000_000, 4096, Vec::new(alloc))?;
+    outcome(alloc, words, source, sink)
+}
+
+// The same for `run` and a short output, byte by byte, with calls that fail.
+fn faulty_run_gives(
+    alloc: Global,
+    failing_reads: Vec<u32>,
+    failing_writes: Vec<u32>,
+) -> Result<(Status, Vec<u8>), NoMemory> {
+    let source = MemSource::make(lines(alloc, SCRIPT)?, 1, failing_reads);
+    let sink = MemSink::make(alloc, 100, 1, failing_writes)?;
+    outcome(alloc, &["run"], source, sink)
 }
 
 // A case of a command: its words, the script, the status and the output.
@@ -53,19 +70,8 @@ type Case = (&'static [&'static str], &'static str, Status, &'static str);
 // Whether each case is as it is told.
 fn first_wrong(alloc: Global, cases: &[Case]) -> Result<Option<usize>, NoMemory> {
     for (place, (words, script, status, output)) in cases.iter().enumerate() {
-        let (given, taken) = command_gives(
-            alloc,
-            words,
-            lines(alloc, script)?,
-            4096,
-            Vec::new(alloc),
-            Vec::new(alloc),
-        )?;
-        let wanted = if output.is_empty() {
-            Vec::new(alloc)
-        } else {
-            lines(alloc, output)?
-        };
+        let (given, taken) = command_gives(alloc, words, lines(alloc, script)?)?;
+        let wanted = lines(alloc, output)?;
         if given != *status || taken.as_slice() != wanted.as_slice() {
             return Ok(Some(place));
         }
@@ -194,7 +200,7 @@ fn numbers_are_computed(rt: HostRuntime) -> Result<(), NoMemory> {
 fn scripts_and_words_are_refused(rt: HostRuntime) -> Result<(), NoMemory> {
     let run: &[&str] = &["run"];
     let check: &[&str] = &["check"];
-    let cases: [Case; 19] = [
+    let cases: [Case; 21] = [
         (run, "proc main; print; end", refused(2, 1), ""),
         (
             run,
@@ -202,6 +208,8 @@ fn scripts_and_words_are_refused(rt: HostRuntime) -> Result<(), NoMemory> {
             refused(5, 10),
             "",
         ),
+        (run, "", refused(0, 5), ""),
+        (check, "", refused(0, 5), ""),
         (run, "# nothing", refused(0, 5), ""),
         (check, SCRIPT, Status::Done, "valid"),
         (
@@ -255,12 +263,53 @@ fn scripts_and_words_are_refused(rt: HostRuntime) -> Result<(), NoMemory> {
 }
 
 #[test]
+fn long_scripts_are_refused(rt: HostRuntime) -> Result<(), NoMemory> {
+    let alloc = rt.alloc();
+    let mut statements = lines(alloc, "proc main")?;
+    for _ in 0..65 {
+        statements.extend_from_slice(b"print 1\n")?;
+    }
+    statements.extend_from_slice(b"end\n")?;
+    let (status, taken) = command_gives(alloc, &["check"], statements)?;
+    assert_eq!(rt; status, refused(66, 3));
+    assert!(rt; taken.is_empty());
+    for (size, line, kind) in [(1_048_576, 0, 5), (1_048_577, 0, 2)] {
+        let text = vec![in alloc; b'#'; size]?;
+        let (status, taken) = command_gives(alloc, &["check"], text)?;
+        assert_eq!(rt; status, refused(line, kind));
+        assert!(rt; taken.is_empty());
+    }
+    Ok(())
+}
+
+#[test]
+fn a_run_without_an_end_meets_its_limit(rt: HostRuntime) -> Result<(), NoMemory> {
+    let alloc = rt.alloc();
+    let script = lines(
+        alloc,
+        "proc main; ivar i; upon i A i; fill i 0; end; proc A v:num i:ivar; upon i A i; end",
+    )?;
+    let (status, taken) = command_gives(alloc, &["run"], script)?;
+    let first = lines(
+        alloc,
+        "enq 0 normal; cycle; job 0; fill 0 0; enq 1 normal; job 1; enq 2 normal",
+    )?;
+    let last = lines(
+        alloc,
+        "job 99999; enq 100000 normal; cycle; end jobs; %pool; idle 100201; close",
+    )?;
+    assert_eq!(rt; status, Status::Jobs);
+    assert!(rt; taken.starts_with(first.as_slice()));
+    assert!(rt; taken.ends_with(last.as_slice()));
+    Ok(())
+}
+
+#[test]
 fn each_failing_read_writes_nothing(rt: HostRuntime) -> Result<(), NoMemory> {
     let alloc = rt.alloc();
     for call in 0..23 {
         let failing = vec![in alloc; call]?;
-        let script = lines(alloc, SCRIPT)?;
-        let (status, taken) = command_gives(alloc, &["run"], script, 1, failing, Vec::new(alloc))?;
+        let (status, taken) = faulty_run_gives(alloc, failing, Vec::new(alloc))?;
         assert_eq!(rt; status, Status::ReadFault);
         assert!(rt; taken.is_empty());
     }
@@ -273,8 +322,7 @@ fn each_failing_write_leaves_a_beginning(rt: HostRuntime) -> Result<(), NoMemory
     let output = lines(alloc, OUTPUT)?;
     for call in 0..61u32 {
         let failing = vec![in alloc; call]?;
-        let script = lines(alloc, SCRIPT)?;
-        let (status, taken) = command_gives(alloc, &["run"], script, 1, Vec::new(alloc), failing)?;
+        let (status, taken) = faulty_run_gives(alloc, Vec::new(alloc), failing)?;
         assert_eq!(rt; status, Status::WriteFault);
         assert_eq!(rt;
             Some(taken.as_slice()),

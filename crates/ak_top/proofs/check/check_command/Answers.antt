@@ -1,7 +1,7 @@
 use Rattle.std.proofs.Common.{refl}
 use Rattle.ak_top.specs.declared.status.Status.TheVariants.{Done, WriteFault}
 use Rattle.ak_top.proofs.Reporting.{check_reports, stop_reports_check}
-use Rattle.ak_top.proofs.top.check_command.Goals as goal
+use Rattle.ak_top.proofs.check.check_command.Goals as goal
 
 pub returns-in-Ok-write_valid-clause-reports : goal.returns-in-Ok-write_valid-clause-reports
 returns-in-Ok-write_valid-clause-reports g c =

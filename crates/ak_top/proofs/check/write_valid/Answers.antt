@@ -2,7 +2,7 @@ use Rattle.std.proofs.Common.{[], subst, List, ℕ}
 use Rattle.ak_base.specs.Streams.{Passes}
 use Rattle.ak_base.proofs.Passing.{on_err, passes-flush_fault}
 use Rattle.ak_top.specs.Output.{valid_line}
-use Rattle.ak_top.proofs.top.write_valid.Goals as goal
+use Rattle.ak_top.proofs.check.write_valid.Goals as goal
 
 pub returns-in_err-flush-clause-begins : goal.returns-in_err-flush-clause-begins
 returns-in_err-flush-clause-begins g c =
