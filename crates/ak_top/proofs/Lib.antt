@@ -3,4 +3,5 @@ mod Idling
 mod Loading
 mod Reporting
 mod Sources
+mod Usages
 mod Writing

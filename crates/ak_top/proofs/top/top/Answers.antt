@@ -1,11 +1,9 @@
-use Rattle.std.proofs.Common.{◌≡◌, ℕ, ap, sym, ◌∙◌, subst}
+use Rattle.std.proofs.Common.{ap, subst}
 use Rattle.ak_words.specs.declared.command.Command.TheVariants.{Run}
-use Rattle.ak_words.specs.Words.{IsUsageFault}
-use Rattle.ak_words.proofs.Usages.{IsUsageFault-unique}
 use Rattle.ak_words.proofs.Meanings.{one_command, has_limit}
-use Rattle.ak_top.specs.declared.status.Status.TheVariants.{Usage}
 use Rattle.ak_top.specs.declared.status.Report.{Report}
 use Rattle.ak_top.specs.Reports.{Reports}
+use Rattle.ak_top.proofs.Usages.{usage_told}
 use Rattle.ak_top.proofs.top.top.Goals as goal
 
 pub run_command-requires : goal.run_command-requires
@@ -18,8 +16,4 @@ returns-in-Ok-Run-clause-reports g c = λ command means.
 
 pub returns-in-Err-clause-usage : goal.returns-in-Err-clause-usage
 returns-in-Err-clause-usage g c place =
-    let told = ap (λ (r : Report). r.status) c.without_run.ensures in (
-      (λ is. let same : c.in-Err.place ≡ place = cc (told, is) in
-          subst (λ (p : ℕ). IsUsageFault c.args.words.now p) same c.in-Err.ensures.usage),
-      (λ fault. told ∙ ap Usage (sym (IsUsageFault-unique c.args.words.now c.in-Err.place place c.in-Err.ensures.usage fault))),
-    )
+    usage_told c.args.words.now c.in-Err.place place c.without_run.result.status (ap (λ (r : Report). r.status) c.without_run.ensures) c.in-Err.ensures.usage
