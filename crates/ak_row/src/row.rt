@@ -9,8 +9,8 @@ use ak_labor::work::{Outcome, WorkKind};
 use ak_text::line::{Line, Words};
 use std::marker::Model;
 
-/// The words that are left of a line. Each call takes the next word, or more where it says so; `None` is a word that
-/// is missing or stands for no such thing, and no call may follow it.
+/// The words that are left of a line. Each call takes the next word, or two for an outcome. It answers `None` exactly where
+/// that word is missing or stands for no such thing; the row is of no use from then on.
 #[derive(Debug, Drop)]
 pub struct Row<'a> {
     words: Words<'a>,

@@ -1,4 +1,5 @@
-//! What single words of a row stand for.
+//! What single words of a row stand for. Each function answers `None` exactly where the word is none of its kind; a number
+//! may have a minus and zeros in front, as long as its value lies in the range.
 
 ghost use Rattle.std.specs.Prelude.{◌≡◌};
 ghost use Rattle.ak_row.specs.Parts.{thing_of, job_of, count_of, signed_of, kind_of};
@@ -10,7 +11,7 @@ use ak_text::read::{read_num, read_u64};
 /// The most times of a word that counts.
 const MAX_COUNT: u32 = 1_000_000;
 
-/// The number of a thing.
+/// The number of a thing, from 0 to 4,294,967,295.
 #[tactic(auto, using(crate::proofs::Numbers::thing_by_job))]
 pub fn thing(word: &[u8]) -> Option<u32>
     ensures { result ≡ thing_of word.now }
@@ -19,14 +20,14 @@ pub fn thing(word: &[u8]) -> Option<u32>
     u32::try_from(number).ok()
 }
 
-/// The number of a job.
+/// The number of a job, from 0 to 18,446,744,073,709,551,615.
 pub fn job(word: &[u8]) -> Option<u64>
     ensures { result ≡ job_of word.now }
 {
     read_u64(word)
 }
 
-/// How many times: one to a million.
+/// How many times, from 1 to 1,000,000.
 #[tactic(auto, using(crate::proofs::Numbers::count_by_thing))]
 pub fn count(word: &[u8]) -> Option<u32>
     ensures { result ≡ count_of word.now }
@@ -38,14 +39,15 @@ pub fn count(word: &[u8]) -> Option<u32>
     Some(count)
 }
 
-/// A number with a sign.
+/// A number with a sign, an `i64`.
+#[tactic(auto, using(crate::proofs::Numbers::signed_is))]
 pub fn signed(word: &[u8]) -> Option<Num>
     ensures { result ≡ signed_of word.now }
 {
     read_num(word)
 }
 
-/// What a work computes.
+/// What a work computes: `square`, `mix` or `fail`.
 #[tactic(auto, unfolding(crate::specs::Parts::kind_of))]
 pub fn kind(word: &[u8]) -> Option<WorkKind>
     ensures { result ≡ kind_of word.now }

@@ -4,9 +4,10 @@ use crate::entry::{Ending, Entry, Trace};
 use crate::laws::trace_reads_back;
 use crate::read::read_trace;
 use crate::refusal::TraceRefused;
+use crate::text::write_trace;
 use ak_base::list::NoMemory;
-use ak_base::number::{HelperNo, IvarNo, JobNo, MonNo, WorkNo};
-use ak_labor::work::{Outcome, WorkKind};
+use ak_base::memory::MemSink;
+use ak_base::number::JobNo;
 use std::alloc::Global;
 
 #[test]
@@ -39,130 +40,63 @@ fn read(alloc: Global, text: &[u8]) -> Result<Trace, TraceRefused> {
     read_trace(alloc, text)
 }
 
-/// The one entry of a text: `None` where it has none or more.
-fn only_entry(alloc: Global, text: &[u8]) -> Option<Entry> {
-    match read(alloc, text).ok()?.as_slice() {
-        [entry] => Some(*entry),
-        _ => None,
-    }
+/// The text of a trace as it is written: `None` where a text is no trace.
+fn written<'a>(alloc: Global, text: &[u8], sink: &'a mut MemSink) -> Option<&'a [u8]> {
+    write_trace(&read(alloc, text).ok()?, sink).ok()?;
+    Some(sink.taken())
 }
 
 #[test]
-fn each_entry_is_read_in_more_spellings_than_one(rt: HostRuntime) {
-    let (two, mon) = (IvarNo::new(2), MonNo::new(4294967295));
-    let (job, work) = (JobNo::new(18446744073709551615), WorkNo::new(8));
-    let helper = HelperNo::new(0);
-    for (text, entry) in [
-        (b"cycle".as_slice(), Entry::Cycle),
-        (b"\tcycle # of 5\xff\r\n", Entry::Cycle),
-        (b"\n# cycle 5\n\n \t\r\ncycle\n\n", Entry::Cycle),
+fn each_entry_is_read_in_more_spellings_than_one(rt: HostRuntime) -> Result<(), NoMemory> {
+    for (text, plain) in [
+        (b"cycle".as_slice(), b"cycle\n".as_slice()),
+        (b"\tcycle # of 5\xff\r\n", b"cycle\n"),
+        (b"\n# cycle 5\n\n \t\r\ncycle\n\n", b"cycle\n"),
+        (b"cycle\r", b"cycle\n"),
         (
             b"enq 18446744073709551615 normal\n",
-            Entry::Enq { job, low: false },
+            b"enq 18446744073709551615 normal\n",
         ),
+        (b"enq 00 low", b"enq 0 low\n"),
         (
-            b"enq 0018446744073709551615 low\r",
-            Entry::Enq { job, low: true },
+            b"job 0018446744073709551615\r\n",
+            b"job 18446744073709551615\n",
         ),
-        (b"job 18446744073709551615\r\n", Entry::Job { job }),
         (
             b"fill 02 9223372036854775807",
-            Entry::Fill {
-                ivar: two,
-                num: i64::MAX,
-            },
+            b"fill 2 9223372036854775807\n",
         ),
-        (
-            b"join 2\t\t002",
-            Entry::Join {
-                result: two,
-                right: two,
-            },
-        ),
-        (b"print -0", Entry::Print { num: 0 }),
+        (b"join 2\t\t004294967295", b"join 2 4294967295\n"),
+        (b"print -0", b"print 0\n"),
         (
             b"print -009223372036854775808",
-            Entry::Print { num: i64::MIN },
+            b"print -9223372036854775808\n",
         ),
+        (b"monitor 4294967295 000", b"monitor 4294967295 0\n"),
+        (b"detach -0", b"detach 0\n"),
+        (b"error -07 4294967295", b"error -7 4294967295\n"),
+        (b"caught 01", b"caught 1\n"),
+        (b"rest -9", b"rest -9\n"),
+        (b"unhandled 010", b"unhandled 10\n"),
+        (b"submit 8 square -3", b"submit 8 square -3\n"),
+        (b"submit 08 mix 03", b"submit 8 mix 3\n"),
+        (b"submit 8 fail -03", b"submit 8 fail -3\n"),
+        (b"helper -0 granted", b"helper 0 granted\n"),
+        (b"helper 4294967295 refused", b"helper 4294967295 refused\n"),
+        (b"arrive 8 good -1", b"arrive 8 good -1\n"),
+        (b"arrive 8 bad 01", b"arrive 8 bad 1\n"),
+        (b" end idle ", b"end idle\n"),
+        (b"end stopped#", b"end stopped\n"),
+        (b"end\tunhandled", b"end unhandled\n"),
         (
-            b"monitor 4294967295 04294967295",
-            Entry::Monitor { mon, parent: mon },
+            b"end jobs\ncycle\nend stuck",
+            b"end jobs\ncycle\nend stuck\n",
         ),
-        (b"detach 4294967295", Entry::Detach { mon }),
-        (b"error -7 4294967295", Entry::Error { num: -7, mon }),
-        (b"caught 4294967295", Entry::Caught { mon }),
-        (b"rest -9", Entry::Rest { num: -9 }),
-        (b"unhandled 00", Entry::Unhandled { num: 0 }),
-        (
-            b"submit 8 square -3",
-            Entry::Submit {
-                work,
-                kind: WorkKind::Square,
-                num: -3,
-            },
-        ),
-        (
-            b"submit 8 mix 3",
-            Entry::Submit {
-                work,
-                kind: WorkKind::Mix,
-                num: 3,
-            },
-        ),
-        (
-            b"submit 8 fail 3",
-            Entry::Submit {
-                work,
-                kind: WorkKind::Fail,
-                num: 3,
-            },
-        ),
-        (
-            b"helper -0 granted",
-            Entry::Helper {
-                no: helper,
-                granted: true,
-            },
-        ),
-        (
-            b"helper 0 refused",
-            Entry::Helper {
-                no: helper,
-                granted: false,
-            },
-        ),
-        (
-            b"arrive 8 good -1",
-            Entry::Arrive {
-                work,
-                outcome: Outcome::Good(-1),
-            },
-        ),
-        (
-            b"arrive 8 bad 1",
-            Entry::Arrive {
-                work,
-                outcome: Outcome::Bad(1),
-            },
-        ),
-        (b"end idle", Entry::End { why: Ending::Idle }),
-        (
-            b"end stopped",
-            Entry::End {
-                why: Ending::Stopped,
-            },
-        ),
-        (
-            b"end unhandled",
-            Entry::End {
-                why: Ending::Unhandled,
-            },
-        ),
-        (b"end jobs", Entry::End { why: Ending::Jobs }),
-        (b"end stuck", Entry::End { why: Ending::Stuck }),
     ] {
-        assert_eq!(rt; only_entry(rt.alloc(), text), Some(entry));
+        let mut sink = MemSink::make(rt.alloc(), 100, 100, Vec::new(rt.alloc()))?;
+        assert_eq!(rt; written(rt.alloc(), text, &mut sink), Some(plain));
     }
+    Ok(())
 }
 
 /// Lines that are no entries: a word too few, one too many, a number out of its range or of another form, another word.
