@@ -159,3 +159,11 @@ fn too_many_events_are_a_bad_line(rt: HostRuntime) -> Result<(), HistoryRefused>
     );
     Ok(())
 }
+
+#[test]
+fn a_refusal_names_its_line(rt: HostRuntime) -> Result<(), HistoryRefused> {
+    let refused = HistoryRefused::BadLine { line: 7 };
+    let text = format!(in rt.alloc(); "{refused}, {}", HistoryRefused::NoMemory)?;
+    assert_eq!(rt; text.as_str(), "line 7 is no line of a history, no memory");
+    Ok(())
+}
