@@ -19,7 +19,7 @@ use std::alloc::Global;
 use std::marker::Model;
 
 /// What a thread is given that asks for a work.
-#[derive(Clone, Copy, Debug)]
+#[derive(Clone, Copy, PartialEq, Eq, Debug)]
 pub enum Taken {
     /// A work, which the thread has begun.
     Got { id: WorkNo, work: Work },
@@ -350,12 +350,17 @@ mod tests {
         Ok(id.number())
     }
 
-    fn take<R: Abort>(rt: &R, pool: &mut Pool, thread: u32) -> Option<u32> {
+    fn take<R: Abort>(rt: &R, pool: &mut Pool, thread: u32) -> Taken {
         let thread = ThreadNo::new(thread);
         assert!(rt; rests(pool, thread));
-        match pool.take(thread) {
-            Taken::Got { id, .. } => Some(id.number()),
-            Taken::NotYet | Taken::Closed => None,
+        pool.take(thread)
+    }
+
+    // The answer that gives this work.
+    fn got(id: u32, kind: WorkKind, num: i64) -> Taken {
+        Taken::Got {
+            id: WorkNo::new(id),
+            work: Work { kind, num },
         }
     }
 
@@ -398,7 +403,7 @@ mod tests {
     enum Step {
         Helper(u32, Option<u32>),
         Submit(WorkKind, i64, Option<u32>, u32),
-        Take(u32, Option<u32>),
+        Take(u32, Taken),
         Finish(u32, u32, i64),
         Drain(u32, i64),
         End(u32),
@@ -425,7 +430,7 @@ mod tests {
                     *to,
                 )? == *id,
             ),
-            Step::Take(thread, id) => Ok(take(rt, pool, *thread) == *id),
+            Step::Take(thread, answer) => Ok(take(rt, pool, *thread) == *answer),
             Step::Finish(thread, id, num) => {
                 finish(rt, pool, *thread, *id, *num);
                 Ok(true)
@@ -478,19 +483,19 @@ mod tests {
             Step::Helper(0, Some(0)),
             Step::Submit(WorkKind::Square, 3, None, 0),
             Step::Helper(1, None),
-            Step::Take(0, None),
-            Step::Take(1, Some(0)),
+            Step::Take(0, Taken::NotYet),
+            Step::Take(1, got(0, WorkKind::Square, 3)),
             Step::Finish(1, 0, 9),
             Step::Submit(WorkKind::Mix, 1, Some(0), 1),
-            Step::Take(1, None),
-            Step::Take(0, Some(1)),
+            Step::Take(1, Taken::NotYet),
+            Step::Take(0, got(1, WorkKind::Mix, 1)),
             Step::Helper(2, Some(1)),
             Step::Drain(0, 9),
             Step::Finish(0, 1, 1_817_669_548),
             Step::End(0),
             Step::Helper(3, Some(0)),
             Step::Close,
-            Step::Take(0, None),
+            Step::Take(0, Taken::Closed),
         ];
         let sink = text_after(&rt, rt.alloc(), 2, &steps)?;
         assert_eq!(rt;
@@ -504,12 +509,12 @@ mod tests {
     fn one_thread(rt: HostRuntime) -> Result<(), NoMemory> {
         let steps = [
             Step::Submit(WorkKind::Square, 3, None, 0),
-            Step::Take(0, Some(0)),
+            Step::Take(0, got(0, WorkKind::Square, 3)),
             Step::Finish(0, 0, 9),
-            Step::Take(0, None),
+            Step::Take(0, Taken::NotYet),
             Step::Drain(0, 9),
             Step::Close,
-            Step::Take(0, None),
+            Step::Take(0, Taken::Closed),
         ];
         let sink = text_after(&rt, rt.alloc(), 1, &steps)?;
         assert_eq!(rt;
