@@ -1,1 +1,2 @@
 mod OneMeeting
+mod SomeMeeting
