@@ -1,0 +1,2 @@
+mod OneMeeting
+mod SomeMeeting

@@ -1,9 +1,30 @@
-//! Records of a program that prints a number.
+//! In how many ways a run and a history go together, and records of a program that prints a number. Each function has an empty
+//! body: its contract is the law.
 
+ghost use Rattle.std.specs.Prelude.{ℕ, ◌≡◌, ◌⊎◌, List};
 ghost use Rattle.ak_labor.specs.declared.ask.Ask.TheVariants as ask;
 ghost use Rattle.ak_history.specs.declared.event.Event.TheVariants as event;
-ghost use Rattle.ak_meets.specs.Meets.{Meets, Yes, Stray, Short};
+ghost use Rattle.ak_history.specs.declared.event.Event.{Event};
+ghost use Rattle.ak_program.specs.declared.program.NumProc.{NumProc};
+ghost use Rattle.ak_machine.specs.declared.config.Config.{Config};
+ghost use Rattle.ak_machine.specs.Run.{IsWrong};
+ghost use Rattle.ak_meets.specs.Meets.{Meeting, Meets, Agree, run_to, Yes, Stray, Short};
 ghost use Rattle.ak_meets.specs.Printing.{printing, usual, whole, closed_early, cut};
+
+/// Of a run and a history at most one is so: they go together to the run's end; or the history strays, at one place, from one
+/// ask; or it is too short, for one ask. Own.
+#[tactic(auto, using(crate::proofs::OneMeeting::one_meeting))]
+pub fn one_meeting()
+    ensures { (program : List NumProc) (main : ℕ) (config : Config) (history : List Event) (one other : Meeting)
+        → Meets program main config history one → Meets program main config history other → one ≡ other }
+{}
+
+/// And one is so, but where the history gives a reply that does not fit the call that it answers. Own.
+pub fn some_meeting()
+    ensures { (program : List NumProc) (main : ℕ) (config : Config) (history : List Event)
+        → ((m : Meeting) × Meets program main config history m)
+        ⊎ ((k : ℕ) × Agree program main config history k × ((run_to program main config history k).outcome ≡ IsWrong)) }
+{}
 
 /// Two drains and the close are its whole record.
 pub fn whole_record()
