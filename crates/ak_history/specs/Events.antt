@@ -115,7 +115,7 @@ abbrev pub is_over : List Event → ℕ → Bool
 is_over events helper =
     is_ended events helper && list_all (λ w. is_finished events w.id) (filter (is_for helper) (handed events))
 
--- whether the thread is the answer of a granted helper that is not over
+-- whether some helper still has the thread: it was granted this one, and has not ended or has works left
 abbrev pub is_reserved : List Event → ℕ → Bool
 is_reserved events thread =
     list_any (λ r. r.thread == thread && not (is_over events r.helper)) (filter_map reserved_in events)

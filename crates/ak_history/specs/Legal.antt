@@ -60,7 +60,7 @@ abbrev pub is_late : Event → Bool
 is_late (event.Finish thread id outcome) = true
 is_late e = false
 
--- an event is legal after the events before it
+-- what may come next, once these events have come: only a finish where the pool is closed, and what the rule of its kind allows
 pub record IsLegalAfter (threads : ℕ) (before : List Event) (e : Event) : Type 0 where
   pub open_or_late : (list_any is_close before && not (is_late e)) ≡ false
   pub rule : MeetsRule threads before e

@@ -8,6 +8,6 @@ use Rattle.ak_top.specs.declared.status.Status.TheVariants.{Usage}
 pub usage_told : (words : List (List ℕ)) (at place : ℕ) (status : Status) → status ≡ Usage at → IsUsageFault words at
     → (status ≡ Usage place → IsUsageFault words place) × (IsUsageFault words place → status ≡ Usage place)
 usage_told words at place status told fault = (
-    (λ is. let same : at ≡ place = cc (told, is) in subst (λ (p : ℕ). IsUsageFault words p) same fault),
-    (λ other. told ∙ ap Usage (sym (IsUsageFault-unique words at place fault other))),
+  (λ is. let same : at ≡ place = cc (told, is) in subst (λ (p : ℕ). IsUsageFault words p) same fault),
+  (λ other. told ∙ ap Usage (sym (IsUsageFault-unique words at place fault other))),
 )
