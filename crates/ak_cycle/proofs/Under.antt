@@ -5,13 +5,14 @@ use Rattle.std.specs.declared.result.Result.{Result}
 use Rattle.std.specs.List.{filter_map, list_any}
 use Rattle.std.proofs.lemmas.List.{length-append}
 use Rattle.std.proofs.lemmas.List.Folds.{list_any-append}
+use Rattle.std.proofs.lemmas.List.Elements.{filter_map-append}
 use Rattle.std.proofs.lemmas.List.Sums.{fold-append}
 use Rattle.ak_labor.specs.declared.ask.Ask.{Ask}
 use Rattle.ak_labor.specs.declared.ask.Ask.TheVariants as ask
 use Rattle.ak_labor.specs.declared.port.PortError.{PortError}
 use Rattle.ak_labor.specs.declared.port.PortError.TheVariants.{Fault, NoMemory}
 use Rattle.ak_labor.specs.Calls.{Reply, Pairs, Done, is_close, IsOpen, IsAsked}
-use Rattle.ak_labor.specs.Waits.{handed_by, is_out, outstanding}
+use Rattle.ak_labor.specs.Waits.{Handed, handed_by, is_out, outstanding}
 use Rattle.ak_trace.specs.declared.entry.Entry.{Entry}
 use Rattle.ak_machine.specs.declared.config.Config.{Config}
 use Rattle.ak_machine.specs.Run.{Machine, Ended, Wants, ran_to, stepped, machine_after, run_of, begun}
@@ -34,6 +35,11 @@ no_work_drain (ask.Drain ∷ asked) e = no_work_drain asked e
 no_work_drain (ask.HelperNew h ∷ asked) e = no_work_drain asked e
 no_work_drain (ask.HelperEnd h ∷ asked) e = no_work_drain asked e
 no_work_drain (ask.Close ∷ asked) e = no_work_drain asked e
+
+-- nor after the close
+pub none_out_closed : (asked asked' : List Ask) (replies : List Reply) → filter_map handed_by asked ≡ [] → asked' ≡ asked ++ ask.Close ∷ [] → outstanding asked' replies ≡ []
+none_out_closed asked asked' replies e ea =
+    none_out asked' replies (ap (filter_map handed_by) ea ∙ filter_map-append handed_by asked (ask.Close ∷ []) ∙ ap (λ (l : List Handed). l ++ []) e)
 
 open_drain : (asked asked' : List Ask) (replies replies' : List Reply) (r : Reply) → IsOpen asked replies → asked' ≡ asked ++ ask.Drain ∷ [] → replies' ≡ replies ++ r ∷ [] → IsOpen asked' replies'
 open_drain asked asked' replies replies' r o ea er = (

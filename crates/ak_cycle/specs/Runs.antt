@@ -6,6 +6,8 @@ use Rattle.ak_labor.specs.declared.port.PortError.{PortError}
 use Rattle.ak_labor.specs.declared.port.PortError.TheVariants.{Fault, NoMemory}
 use Rattle.ak_labor.specs.Calls.{Reply, IsOpen}
 use Rattle.ak_trace.specs.declared.entry.Entry.{Entry}
+use Rattle.ak_trace.specs.declared.entry.Entry.TheVariants as entry
+use Rattle.ak_trace.specs.declared.entry.Ending.TheVariants as ending
 use Rattle.ak_machine.specs.Run.{Run, HasEnded, Wants}
 
 -- the machine's run has ended with this trace, and asked and waited as the port says
@@ -39,3 +41,7 @@ abbrev pub IsNoMemory : {T F : Type 0} → Result T (PortError F) → Type 0
 IsNoMemory (Ok v) = ⊥
 IsNoMemory (Err (Fault f)) = ⊥
 IsNoMemory (Err NoMemory) = Unit {0}
+
+-- the trace ends idle
+abbrev pub EndsIdle : List Entry → Type 0
+EndsIdle trace = (before : List Entry) × (trace ≡ before ++ entry.End ending.Idle ∷ [])

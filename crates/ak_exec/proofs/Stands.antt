@@ -236,3 +236,13 @@ more_by false c e = rw (sym e) refl
 
 pub more_seen : (cells : NamedCells Frame) (q : Queues Task) (t : List Entry) → not (has_no_job q) ≡ has_more (seen cells q t).plain
 more_seen cells q t = more_by (has_no_job q) (has_no_job (seen cells q t).plain.queues) (sym (no_job_mapped (name_in (trimmed cells.names)) q))
+
+-- an empty result is not found full
+never_by : (b : Bool) (o p : Option ℤ) → o ≡ None → cond b Same (connection_at o p) ≡ ResultFull → ⊥
+never_by true o p e h = absurd (cc)
+never_by false None None e h = absurd (cc)
+never_by false None (Some v) e h = absurd (cc)
+never_by false (Some w) p e h = absurd (cc)
+
+pub never_full : (cells : NamedCells Frame) (q : Queues Task) (t : List Entry) (r i : ℕ) → number_at (name_in (trimmed cells.names) r) (seen cells q t).plain ≡ None → connection_of r i cells ≡ ResultFull → ⊥
+never_full cells q t r i e h = never_by (name_in cells.names r == name_in cells.names i) (number_of r cells) (number_of i cells) (sym (number_seen cells r) ∙ e) h

@@ -23,7 +23,12 @@ use Rattle.ak_exec.specs.Seen.{Seen}
 use Rattle.ak_exec.specs.Steps.{Takes, ended_by}
 use Rattle.ak_exec.specs.declared.statement.Step.{Step}
 use Rattle.ak_exec.specs.declared.statement.Step.TheVariants as step_is
-use Rattle.ak_exec.specs.Built.{ProcIsBuilt, AreBuilt}
+use Rattle.ak_program.specs.declared.program.NumPrefix.{NumPrefix}
+use Rattle.ak_program.specs.declared.statement.NumStmt.{NumStmt}
+use Rattle.ak_holders.specs.Prefixes.{BindsAlone, LineBindsAlone, PrefixesBindNothing}
+use Rattle.ak_holders.specs.Returns.{IsEmptyResult, LinesReturn}
+use Rattle.ak_holders.proofs.Carry.{returns_on, returns_here as returns_at}
+use Rattle.ak_exec.specs.Built.{MayHavePrefix, IsBuilt, ProcIsBuilt, AreBuilt}
 use Rattle.ak_exec.specs.Fits.{ValueFits, ValsFit, kinds_of, AreTyped, CallFits, IsReturned, IsUnderWay}
 use Rattle.ak_exec.proofs.Typed.{head_returned}
 
@@ -111,3 +116,26 @@ value_call program n proc z vals h = by (slice_get program proc) h
     by : (o : Option NumProc) → MatchOption o ⊥ (λ (p : NumProc). ValsFit n (kinds_of p.params) (value.Num (pos 0) ∷ vals)) → MatchOption o ⊥ (λ (p : NumProc). ValsFit n (kinds_of p.params) (value.Num z ∷ vals))
     by None f = absurd f
     by (Some p) f = first_any n (kinds_of p.params) z vals f
+
+-- ---- a job that returns to an empty deferred
+pub goes_returns : (ctx : Ctx) (ret ret' : Ret) (line : NumStatement) (rest : List NumStatement) (s s' : State) (vals vals' : List Value) → LinesReturn ctx ret (line ∷ rest) s vals → ret' ≡ ret → line_effect ctx line s vals ≡ Goes s' vals' → LinesReturn ctx ret' rest s' vals'
+goes_returns ctx ret ret' line rest s s' vals vals' f er e = subst (λ r. LinesReturn ctx r rest s' vals') (sym er) (returns_on ctx ret line rest s s' vals vals' f e)
+
+pub ended_empty : (ctx : Ctx) (ret : Ret) (old new : Seen) (vals vals' : List Value) (line : NumStatement) (rest : List NumStatement) (step : Step) → LinesReturn ctx ret (line ∷ rest) old.plain vals → Takes (line_effect ctx line old.plain vals) step old new vals'
+    → (v : Value) → step ≡ step_is.Returns v → IsEmptyResult ret old.plain
+ended_empty ctx ret old new vals vals' line rest step_is.Goes f t v e = absurd (cc)
+ended_empty ctx ret old new vals vals' line rest (step_is.Raises num) f t v e = absurd (cc)
+ended_empty ctx ret old new vals vals' line rest (step_is.Returns u) f t v e = returns_at ctx ret line rest old.plain vals (value_mapped (name_in new.names) u) f t.0
+
+bare_alone : (prefix : Option NumPrefix) (st : NumStmt) → MayHavePrefix prefix st → BindsAlone prefix st
+bare_alone None st h = tt
+bare_alone (Some p) st h = h
+
+lines_alone : (lines : List NumStatement) → AllByRecursion IsBuilt lines → AllByRecursion LineBindsAlone lines
+lines_alone [] h = tt
+lines_alone (line ∷ lines) h = (bare_alone line.prefix line.stmt h.0.0, lines_alone lines h.1)
+
+-- the lines of a program that is built bind nothing behind a prefix
+pub built_alone : (program : List NumProc) → AreBuilt program → PrefixesBindNothing program
+built_alone [] h = tt
+built_alone (proc ∷ program) h = (lines_alone proc.body h.0, built_alone program h.1)

@@ -17,6 +17,7 @@ use Rattle.ak_exec.specs.Steps.{after_is}
 use Rattle.ak_program.specs.Programs.{NumProgram}
 use Rattle.ak_exec.specs.Built.{AreBuilt}
 use Rattle.ak_exec.specs.Fits.{JobFits, Fits}
+use Rattle.ak_holders.specs.Held.{HeldBeside}
 
 -- the program and the settings, the plain state, the job that was picked and has not run, and how many jobs were picked
 pub record Worldly : Type 0 where
@@ -31,12 +32,14 @@ abbrev pub world_of : NumProgram → Config → Seen → Option (Job Task) → �
 world_of program config s picked ran =
     record { program = program; config = config; plain = s.plain; picked = option_map (job_mapped (name_in s.names)) picked; ran = ran }
 
--- all that a world holds fits its program, whose statements are built, and a cycle has room for a job
+-- all that a world holds fits its program, whose statements are built, and a cycle has room for a job; and each name has one
+-- holder at the most
 pub record IsWhole (w : Worldly) : Type 0 where
   pub built : AreBuilt w.program.procs
   pub limit : 1 ≤ w.config.limit
   pub fits : Fits w.program.procs w.plain
   pub picked : IfSome w.picked (JobFits w.program.procs (length w.plain.cells.ivars))
+  pub held : HeldBeside w.program.procs w.picked w.plain
 
 -- how many jobs were picked, with one more where there is a pick
 abbrev pub ran_with : {A : Type 0} → Option A → ℕ → ℕ

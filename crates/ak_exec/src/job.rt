@@ -1,12 +1,14 @@
 //! How a job runs: its statements, its return, and each kind of frame.
 
-ghost use Rattle.std.specs.Prelude.{◌≡◌, ◌≢◌, ◌+◌, ◌<◌, pos, ◌∷◌, length, drop, IfOk, OnOk, IfNone, IfSome};
+ghost use Rattle.std.specs.Prelude.{◌≡◌, ◌≢◌, ◌+◌, ◌<◌, pos, ◌∷◌, length, drop, None, IfOk, OnOk, IfNone, IfSome};
 ghost use Rattle.ak_cells.specs.Names.{name_in};
+ghost use Rattle.ak_machine.specs.Deferred.{number_at as full_with};
 ghost use Rattle.ak_machine.specs.Effect.{holds};
 ghost use Rattle.ak_machine.specs.Errors.{send as send_of};
 ghost use Rattle.ak_machine.specs.Job.{Over, run_lines as lines_run, run_frame as frame_run, run_job as job_run, returned as returned_by, lines_of, value_or_zero};
 ghost use Rattle.ak_machine.specs.Mapped.{ret_mapped, frame_mapped, value_mapped, job_mapped};
 ghost use Rattle.ak_machine.specs.Statement.{line_effect};
+ghost use Rattle.ak_holders.specs.Returns.{IsEmptyResult, LinesReturn, FrameReturns, JobReturns};
 ghost use Rattle.ak_exec.specs.Built.{AreBuilt};
 ghost use Rattle.ak_exec.specs.Fits.{Fits, RetFits, CallFits, FrameFits, JobFits, IsReturned, IsUnderWay};
 ghost use Rattle.ak_exec.specs.Ready.{named, IsReady, IsTold};
@@ -70,6 +72,7 @@ fn return_number(parts: &mut Parts, r: IvarNo, num: Num) -> Result<(), NoMemory>
 fn return_deferred(parts: &mut Parts, r: IvarNo, i: IvarNo) -> Result<(), NoMemory>
     requires result { name_in parts.old.names r < length parts.old.plain.cells.ivars }
     requires deferred { name_in parts.old.names i < length parts.old.plain.cells.ivars }
+    requires empty { full_with (name_in parts.old.names r) parts.old.plain ≡ None }
     ensures { OnOk result (parts.new.plain ≡ returned_by (Ret.To (name_in parts.old.names r)) (Value.Def (name_in parts.old.names i)) parts.old.plain) }
 {
     parts.check_drawn(r);
@@ -81,6 +84,7 @@ fn return_deferred(parts: &mut Parts, r: IvarNo, i: IvarNo) -> Result<(), NoMemo
 fn return_value(parts: &mut Parts, r: IvarNo, value: Value) -> Result<(), NoMemory>
     requires result { name_in parts.old.names r < length parts.old.plain.cells.ivars }
     requires value { IsReturned (length parts.old.plain.cells.ivars) (value_mapped (name_in parts.old.names) value) }
+    requires empty { full_with (name_in parts.old.names r) parts.old.plain ≡ None }
     ensures { OnOk result (parts.new.plain ≡ returned_by (Ret.To (name_in parts.old.names r)) (value_mapped (name_in parts.old.names) value) parts.old.plain) }
 {
     match value {
@@ -95,6 +99,7 @@ fn return_value(parts: &mut Parts, r: IvarNo, value: Value) -> Result<(), NoMemo
 fn returned(parts: &mut Parts, ret: Ret, value: Value) -> Result<(), NoMemory>
     requires ret { RetFits (length parts.old.plain.cells.ivars) (ret_mapped (name_in parts.old.names) ret) }
     requires value { IsReturned (length parts.old.plain.cells.ivars) (value_mapped (name_in parts.old.names) value) }
+    requires empty { IsEmptyResult (ret_mapped (name_in parts.old.names) ret) parts.old.plain }
     ensures { OnOk result (parts.new.plain ≡ returned_by (ret_mapped (name_in parts.old.names) ret) (value_mapped (name_in parts.old.names) value) parts.old.plain) }
 {
     match ret {
@@ -116,6 +121,7 @@ fn ended(
     requires ret { RetFits (length parts.old.plain.cells.ivars) (ret_mapped (name_in parts.old.names) ret) }
     requires ends { step ≢ Step.Goes }
     requires returned { (value : Value) → step ≡ Step.Returns value → IsReturned (length parts.old.plain.cells.ivars) (value_mapped (name_in parts.old.names) value) }
+    requires empty { (value : Value) → step ≡ Step.Returns value → IsEmptyResult (ret_mapped (name_in parts.old.names) ret) parts.old.plain }
     requires fits { Fits program.now.procs parts.old.plain }
     ensures fits { OnOk result (Fits program.now.procs parts.new.plain) }
     ensures told { IfOk result (λ flow. Ends flow parts.new.plain.trace) }
@@ -147,6 +153,8 @@ fn advance(
 ) -> Result<Option<Flow>, NoMemory>
     requires way { IsUnderWay program.now.procs parts.old.plain (named parts.old vals.old) ctx.now (ret_mapped (name_in parts.old.names) ret.now) (drop k lines.now) }
     requires some { k < length lines.now }
+    requires returns { LinesReturn ctx.now (ret_mapped (name_in parts.old.names) ret.now) (drop k lines.now) parts.old.plain (named parts.old vals.old) }
+    ensures returns { IfOk result (λ next. IfNone next (LinesReturn ctx.now (ret_mapped (name_in parts.new.names) ret.now) (drop (k + 1) lines.now) parts.new.plain (named parts.new vals.new))) }
     ensures way { IfOk result (λ next. IfNone next (IsUnderWay program.now.procs parts.new.plain (named parts.new vals.new) ctx.now (ret_mapped (name_in parts.new.names) ret.now) (drop (k + 1) lines.now))) }
     ensures fits { OnOk result (Fits program.now.procs parts.new.plain) }
     ensures told { IfOk result (λ next. IfSome next (λ flow. Ends flow parts.new.plain.trace)) }
@@ -168,7 +176,8 @@ fn run_lines(
     lines: &[NumStatement],
     vals: &mut Vals,
 ) -> Result<Flow, NoMemory>
-    requires { IsUnderWay program.now.procs parts.old.plain (named parts.old vals.old) ctx.now (ret_mapped (name_in parts.old.names) ret.now) lines.now }
+    requires way { IsUnderWay program.now.procs parts.old.plain (named parts.old vals.old) ctx.now (ret_mapped (name_in parts.old.names) ret.now) lines.now }
+    requires returns { LinesReturn ctx.now (ret_mapped (name_in parts.old.names) ret.now) lines.now parts.old.plain (named parts.old vals.old) }
     ensures fits { OnOk result (Fits program.now.procs parts.new.plain) }
     ensures told { IfOk result (λ flow. Ends flow parts.new.plain.trace) }
     ensures runs { IfOk result (λ flow. lines_run ctx.now (ret_mapped (name_in parts.old.names) ret.now) lines.now parts.old.plain (named parts.old vals.old) ≡ Over (after_is flow parts.new.plain)) }
@@ -221,6 +230,7 @@ fn run_call(
     requires built { AreBuilt program.now.procs }
     requires root { ctx.mon ≡ 0 }
     requires call { CallFits program.now.procs (length parts.old.plain.cells.ivars) proc (named parts.old vals) }
+    requires returns { LinesReturn ctx (ret_mapped (name_in parts.old.names) ret) (lines_of program.now.procs proc) parts.old.plain (named parts.old vals) }
     requires ret { RetFits (length parts.old.plain.cells.ivars) (ret_mapped (name_in parts.old.names) ret) }
     requires fits { Fits program.now.procs parts.old.plain }
     ensures fits { OnOk result (Fits program.now.procs parts.new.plain) }
@@ -251,6 +261,7 @@ pub fn run_task(
     requires built { AreBuilt program.now.procs }
     requires root { ctx.mon ≡ 0 }
     requires frame { FrameFits program.now.procs (length parts.old.plain.cells.ivars) (frame_mapped (name_in parts.old.names) task.frame) }
+    requires returns { FrameReturns program.now.procs ctx (frame_mapped (name_in parts.old.names) task.frame) (value_or_zero task.value) parts.old.plain }
     requires fits { Fits program.now.procs parts.old.plain }
     ensures fits { OnOk result (Fits program.now.procs parts.new.plain) }
     ensures told { IfOk result (λ flow. Ends flow parts.new.plain.trace) }
@@ -276,6 +287,7 @@ pub fn run_job(
 ) -> Result<Flow, NoMemory>
     requires built { AreBuilt program.now.procs }
     requires job { JobFits program.now.procs (length parts.old.plain.cells.ivars) (job_mapped (name_in parts.old.names) job) }
+    requires returns { JobReturns program.now.procs (job_mapped (name_in parts.old.names) job) parts.old.plain }
     requires fits { Fits program.now.procs parts.old.plain }
     ensures fits { OnOk result (Fits program.now.procs parts.new.plain) }
     ensures told { IfOk result (λ flow. Ends flow parts.new.plain.trace) }

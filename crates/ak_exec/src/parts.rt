@@ -10,7 +10,7 @@ ghost use Rattle.ak_machine.specs.declared.config.Flow.{Flow};
 ghost use Rattle.ak_machine.specs.Errors.{send};
 ghost use Rattle.ak_machine.specs.Status.{ByError, status_of};
 ghost use Rattle.ak_machine.specs.State.{State, initial_state};
-ghost use Rattle.ak_machine.specs.Deferred.{noting, enqueue, with_ivar, is_empty, fill, register, connect};
+ghost use Rattle.ak_machine.specs.Deferred.{noting, enqueue, with_ivar, number_at as full_with, is_empty, fill, register, connect};
 ghost use Rattle.ak_machine.specs.Mapped.{task_mapped, job_mapped, frame_mapped, value_mapped, values_mapped};
 ghost use Rattle.ak_machine.specs.Effect.{value_of, number_in, name_in as name_at, args_of, local};
 ghost use Rattle.ak_exec.specs.Seen.{doing, enqueued_for, with_jobs, root_error, without_pick};
@@ -143,17 +143,18 @@ impl Parts {
         Ok(())
     }
 
-    /// A result takes what another ivar has, or its place.
+    /// An empty result takes what another ivar has, or its place.
     pub fn connect(&mut self, r: IvarNo, i: IvarNo) -> Result<(), NoMemory>
         requires result_drawn { r < length self.old.plain.cells.ivars }
         requires right_drawn { i < length self.old.plain.cells.ivars }
+        requires empty { full_with (name_in self.old.names r) self.old.plain ≡ None }
         ensures { OnOk result (self.new.plain ≡ connect (name_in self.old.names r) (name_in self.old.names i) self.old.plain) }
     {
         let result = cells::name(&mut self.cells, r);
         let right = cells::name(&mut self.cells, i);
         match cells::connect(&mut self.cells, r, i) {
             Connected::Same => Ok(()),
-            Connected::ResultFull => Ok(()),
+            Connected::ResultFull => unreachable!(),
             Connected::Filled(num) => {
                 note_fill(
                     &mut self.cells,

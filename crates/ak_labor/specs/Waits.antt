@@ -63,6 +63,22 @@ helped active call = helped_by active call.0 call.1
 abbrev pub active_helpers : List Ask → List Reply → List ℕ
 active_helpers asked replies = fold helped [] (zip asked replies)
 
+abbrev pub is_number : ℕ → ℕ → Bool
+is_number h k = k == h
+
+-- the helper that is named is granted and not ended
+abbrev pub IsServedBy : List Ask → List Reply → Option ℕ → Type 0
+IsServedBy asked replies None = Unit {0}
+IsServedBy asked replies (Some h) = list_any (is_number h) (active_helpers asked replies) ≡ true
+
+-- the helper that is asked for
+abbrev pub helper_in : Ask → Option ℕ
+helper_in (ask.Submit id work helper) = None
+helper_in ask.Drain = None
+helper_in (ask.HelperNew h) = Some h
+helper_in (ask.HelperEnd h) = None
+helper_in ask.Close = None
+
 abbrev pub is_for_helper : Handed → Bool
 is_for_helper handed = is_some handed.helper
 

@@ -1,12 +1,14 @@
 //! The scheduler's way to the pool.
 
-ghost use Rattle.std.specs.Prelude.{List, ℕ, ◌≡◌, ◌≢◌, ◌≤◌, ◌<◌, ◌⊎◌, [], ◌∷◌, ◌++◌, length, OnOk, OnErr, IfOk};
+ghost use Rattle.std.specs.Prelude.{List, ℕ, ◌≡◌, ◌≢◌, ◌≤◌, ◌<◌, ◌-◌, ◌^◌, ◌⊎◌, [], ◌∷◌, ◌++◌, length, Some, OnOk, OnErr, IfOk};
+ghost use Rattle.std.specs.List.{filter_map};
 ghost use Rattle.ak_labor.specs.declared.ask.Ask.{Ask};
-ghost use Rattle.ak_labor.specs.Calls.{Reply, Pairs, Done, IsAsked, IsOpen, IsFault};
-ghost use Rattle.ak_labor.specs.Waits.{outstanding, Arrive, CanWait, HasWaited};
+ghost use Rattle.ak_labor.specs.Calls.{Reply, Pairs, Granted, Done, IsAsked, IsOpen, IsFault};
+ghost use Rattle.ak_labor.specs.Waits.{outstanding, handed_by, helper_in, Arrive, CanWait, HasWaited, IsServedBy};
 
 use crate::ask::Ask;
-use crate::work::Arrivals;
+use crate::work::{Arrivals, Work};
+use ak_base::number::{HelperNo, WorkNo};
 use std::alloc::AllocError;
 
 /// Why a call of a port failed: by the port's own fault, or for want of memory.
@@ -52,6 +54,41 @@ pub trait Port {
         ensures asked { IsAsked Ask.Drain (λ _. Pairs into.new) (asked self.old) (asked self.new) (replies self.old) (replies self.new) result }
         ensures arrive { OnOk result (Arrive (outstanding (asked self.old) (replies self.old)) into.new) }
         ensures woken { OnOk result (HasWaited (asked self.old) (waits self.old) → (into.new ≢ []) ⊎ (turns self.new < turns self.old)) }
+        ensures threads { threads self.new ≡ threads self.old }
+        ensures turns { turns self.new ≤ turns self.old }
+        ensures waits { waits self.new ≡ waits self.old };
+
+    /// Hands in a work, for any thread or for the thread of a helper that is granted and not ended, and gives its number:
+    /// how many were handed in before, which are fewer than 4,294,967,295.
+    fn submit(
+        &mut self,
+        work: Work,
+        helper: Option<HelperNo>,
+    ) -> Result<WorkNo, PortError<Self::Fault>>
+        requires open { IsOpen (asked self.old) (replies self.old) }
+        requires numbers { length (filter_map handed_by (asked self.old)) < 2 ^ 32 - 1 }
+        requires served { IsServedBy (asked self.old) (replies self.old) helper }
+        ensures number { IfOk result (λ id. id ≡ length (filter_map handed_by (asked self.old))) }
+        ensures asked { IsAsked (Ask.Submit (length (filter_map handed_by (asked self.old))) work helper) (λ _. Done) (asked self.old) (asked self.new) (replies self.old) (replies self.new) result }
+        ensures threads { threads self.new ≡ threads self.old }
+        ensures turns { turns self.new ≤ turns self.old }
+        ensures waits { waits self.new ≡ waits self.old };
+
+    /// Asks for a helper, under the number of how many were asked for before, which are fewer than 4,294,967,295:
+    /// whether it is granted.
+    fn helper(&mut self) -> Result<bool, PortError<Self::Fault>>
+        requires open { IsOpen (asked self.old) (replies self.old) }
+        requires numbers { length (filter_map helper_in (asked self.old)) < 2 ^ 32 - 1 }
+        ensures asked { IsAsked (Ask.HelperNew (length (filter_map helper_in (asked self.old)))) (λ granted. Granted granted) (asked self.old) (asked self.new) (replies self.old) (replies self.new) result }
+        ensures threads { threads self.new ≡ threads self.old }
+        ensures turns { turns self.new ≤ turns self.old }
+        ensures waits { waits self.new ≡ waits self.old };
+
+    /// Ends a helper that is granted and not ended.
+    fn end_helper(&mut self, no: HelperNo) -> Result<(), PortError<Self::Fault>>
+        requires open { IsOpen (asked self.old) (replies self.old) }
+        requires active { IsServedBy (asked self.old) (replies self.old) (Some no) }
+        ensures asked { IsAsked (Ask.HelperEnd no) (λ _. Done) (asked self.old) (asked self.new) (replies self.old) (replies self.new) result }
         ensures threads { threads self.new ≡ threads self.old }
         ensures turns { turns self.new ≤ turns self.old }
         ensures waits { waits self.new ≡ waits self.old };

@@ -3,8 +3,13 @@
 
 mod streams;
 
+ghost use Rattle.std.specs.Prelude.{◌≡◌, length, IfOk};
+ghost use Rattle.std.specs.List.{AllByRecursion};
+
 use crate::streams::{StdSink, StdSource};
 use ak_base::list::{Items, Word};
+use ak_crew::hands::plain_hands;
+use ak_labor::labor::Plain;
 use ak_top::status::{Status, message};
 use ak_top::top::top;
 use std::env;
@@ -13,11 +18,18 @@ use std::process::ExitCode;
 
 /// Carries out the command that the words give, and ends with the number of its status.
 fn main(rt: HostRuntime) -> ExitCode {
-    match command_words(&rt) {
-        Ok(words) => {
+    match words_and_hands(&rt) {
+        Ok((words, hands)) => {
             let mut source = StdSource::new(rt.stdin());
             let mut sink = StdSink::new(rt.stdout());
-            let report = top(rt.alloc(), words.as_slice(), &mut source, &mut sink);
+            let (report, _hands) = top(
+                &rt,
+                rt.alloc(),
+                words.as_slice(),
+                &mut source,
+                &mut sink,
+                hands,
+            );
             tell(&rt, &report.status);
             ExitCode::from(report.status.number())
         }
@@ -30,6 +42,15 @@ fn main(rt: HostRuntime) -> ExitCode {
             ExitCode::from(status.number())
         }
     }
+}
+
+/// The words after the program's name, and a hand for each thread that a pool may have.
+fn words_and_hands(rt: &HostRuntime) -> io::Result<(Vec<Word>, Vec<Plain>)>
+    ensures { IfOk result (λ r. (length r.1.items ≡ 32) × AllByRecursion (λ h. h ≡ 0) r.1.items) }
+{
+    let words = command_words(rt)?;
+    let hands = plain_hands(rt.alloc(), 32)?;
+    Ok((words, hands))
 }
 
 /// The words after the program's name.

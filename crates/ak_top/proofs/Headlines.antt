@@ -11,23 +11,23 @@ use Rattle.ak_valid.specs.Numbered.{numbered, main_of}
 use Rattle.ak_machine.specs.declared.config.Config.{Config}
 use Rattle.ak_machine.specs.Run.{run_of}
 use Rattle.ak_cycle.specs.Runs.{HasEndedWith}
+use Rattle.ak_crew.specs.Once.{StartOnce}
+use Rattle.ak_crew.specs.Crews.{HasRun}
 use Rattle.ak_top.specs.Headline.{IsScript, RunsTo}
-use Rattle.ak_top.specs.Idle.{AreIdle}
-use Rattle.ak_top.proofs.Idling.{once_idle}
 
--- a run over the pool without works
-pub runs_to : (config : Config) (bytes : List ℕ) (script : List Proc) (program : NumProgram) (trace : List Entry) (history kept : List Event) (threads : ℕ) (waits : List ℕ) → IsScript bytes script → program.procs ≡ numbered script → program.main ≡ main_of script → HasEndedWith (run_of program.procs program.main config (replies kept)) trace (asks kept) waits → history ≡ kept → Legal threads kept → threads ≡ config.threads → AreIdle kept → RunsTo config bytes trace history
-runs_to config bytes script program trace history kept threads waits is_script procs_are main_is ended history_is legal threads_are idle =
-    let by_main : HasEndedWith (run_of program.procs (main_of script) config (replies kept)) trace (asks kept) waits =
-    subst (λ (main : ℕ). HasEndedWith (run_of program.procs main config (replies kept)) trace (asks kept) waits) main_is ended in
-    let by_script : HasEndedWith (run_of (numbered script) (main_of script) config (replies kept)) trace (asks kept) waits =
-    subst (λ (procs : List NumProc). HasEndedWith (run_of procs (main_of script) config (replies kept)) trace (asks kept) waits) procs_are by_main in
-    rw history_is (record {
+-- a run over a crew
+pub runs_to : (config : Config) (bytes : List ℕ) (script : List Proc) (program : NumProgram) (trace : List Entry) (history : List Event) → IsScript bytes script → program.procs ≡ numbered script → program.main ≡ main_of script → HasRun program config trace (asks history) (replies history) → Legal config.threads history → StartOnce trace history → RunsTo config bytes trace history
+runs_to config bytes script program trace history is_script procs_are main_is ran legal once =
+    let by_main : HasEndedWith (run_of program.procs (main_of script) config (replies history)) trace (asks history) ran.waits =
+    subst (λ (main : ℕ). HasEndedWith (run_of program.procs main config (replies history)) trace (asks history) ran.waits) main_is ran.ended in
+    let by_script : HasEndedWith (run_of (numbered script) (main_of script) config (replies history)) trace (asks history) ran.waits =
+    subst (λ (procs : List NumProc). HasEndedWith (run_of procs (main_of script) config (replies history)) trace (asks history) ran.waits) procs_are by_main in
+    record {
       script = script;
       is_script = is_script;
-      legal = subst (λ (n : ℕ). Legal n kept) threads_are legal;
+      legal = legal;
       ended = by_script.ended;
       trace_is = by_script.trace_is;
       asks_are = by_script.asks_are;
-      once = once_idle trace kept idle;
-    })
+      once = once;
+    }

@@ -1,5 +1,5 @@
 mod Headlines
-mod Idling
+mod Hands
 mod Loading
 mod Reporting
 mod Sources

@@ -53,7 +53,7 @@ not_both : (s : Status) → is_carried_out s ≡ true → is_carried_out s ≡ f
 not_both s c d = cc (c, d)
 
 -- ---- a run
-carried : (s : Status) (t : Stat) → (s ≡ status_by t) ⊎ (s ≡ WriteFault) → is_carried_out s ≡ true
+pub carried : (s : Status) (t : Stat) → (s ≡ status_by t) ⊎ (s ≡ WriteFault) → is_carried_out s ≡ true
 carried s t (inl e) = ap is_carried_out e ∙ carried_by t
 carried s t (inr e) = ap is_carried_out e
 

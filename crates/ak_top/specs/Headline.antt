@@ -1,12 +1,7 @@
 -- What a run is: the theorem that the contract of the top call carries. Own.
-use Rattle.std.specs.Prelude.{ℕ, ◌≤◌, List, [], ◌∷◌, ◌++◌, ◌≡◌, count_by, ◌==◌, Option, Some}
-use Rattle.std.specs.List.{AllByRecursion}
-use Rattle.ak_labor.specs.Waits.{Handed}
+use Rattle.std.specs.Prelude.{ℕ, List, ◌≡◌, Option}
 use Rattle.ak_trace.specs.declared.entry.Entry.{Entry}
-use Rattle.ak_trace.specs.declared.entry.Entry.TheVariants as entry
-use Rattle.ak_trace.specs.declared.entry.Ending.TheVariants as ending
 use Rattle.ak_history.specs.declared.event.Event.{Event}
-use Rattle.ak_history.specs.Events.{handed, begun}
 use Rattle.ak_history.specs.Legal.{Legal}
 use Rattle.ak_history.specs.Scheduler.{asks, replies}
 use Rattle.ak_script.specs.declared.script.Proc.{Proc}
@@ -15,6 +10,7 @@ use Rattle.ak_valid.specs.Valid.{Valid}
 use Rattle.ak_valid.specs.Numbered.{numbered, main_of}
 use Rattle.ak_machine.specs.declared.config.Config.{Config}
 use Rattle.ak_machine.specs.Run.{Run, HasEnded, run_of}
+use Rattle.ak_crew.specs.Once.{StartOnce}
 use Rattle.ak_top.specs.Reading.{Had}
 
 -- the bytes are a valid script
@@ -25,18 +21,6 @@ pub record IsScript (bytes : List ℕ) (script : List Proc) : Type 0 where
 -- the run of the machine for a script, on the replies that a history gave its scheduler
 abbrev pub run_on : List Proc → Config → List Event → Run
 run_on script config history = run_of (numbered script) (main_of script) config (replies history)
-
--- how often a work was begun
-abbrev pub starts_of : List Event → ℕ → ℕ
-starts_of history id = count_by (λ b. b.id == id) (begun history)
-
-abbrev pub StartedOnce : List Event → Handed → Type 0
-StartedOnce history work = starts_of history work.id ≡ 1
-
--- each work is begun at most once, and each one that was handed in exactly once where the run ended idle
-pub record StartOnce (trace : List Entry) (history : List Event) : Type 0 where
-  pub at_most : (id : ℕ) → starts_of history id ≤ 1
-  pub exactly : (before : List Entry) → trace ≡ before ++ entry.End ending.Idle ∷ [] → AllByRecursion (StartedOnce history) (handed history)
 
 -- The headline, for a script's bytes: this trace and this history are those of a run of the script under these settings.
 pub record RunsTo (config : Config) (bytes : List ℕ) (trace : List Entry) (history : List Event) : Type 0 where

@@ -1,5 +1,5 @@
 pub mod Headline
-pub mod Idle
+pub mod Hands
 pub mod Output
 pub mod Reading
 pub mod Reports

@@ -2,7 +2,6 @@
 #![tactic(auto)]
 
 pub mod check;
-pub mod no_works;
 pub mod reading;
 pub mod running;
 pub mod status;

@@ -1,6 +1,7 @@
 //! A script from its source to its trace.
 
-ghost use Rattle.std.specs.Prelude.{◌≡◌, ◌≤◌, ℕ, List, IfOk, IfErr, OnOk, MatchOption};
+ghost use Rattle.std.specs.Prelude.{◌≡◌, ◌≤◌, ℕ, List, length, IfOk, IfErr, OnOk, MatchOption};
+ghost use Rattle.std.specs.List.{AllByRecursion};
 ghost use Rattle.ak_script.specs.declared.script.Proc.{Proc};
 ghost use Rattle.ak_cycle.specs.Turns.{IsFinished};
 ghost use Rattle.ak_exec.specs.Built.{AreBuilt, FirstUnbuilt, statements};
@@ -8,24 +9,27 @@ ghost use Rattle.ak_machine.specs.declared.config.Config.{Config as Settings};
 ghost use Rattle.ak_machine.specs.Status.{status_of};
 ghost use Rattle.ak_valid.specs.Numbered.{numbered};
 ghost use Rattle.ak_words.specs.declared.command.Command.TheVariants.{Run, Check};
+ghost use Rattle.ak_top.specs.Hands.{HaveCarried, AreKept};
 ghost use Rattle.ak_top.specs.Headline.{IsScript, RunsTo, IsRun, IsValidSource};
 ghost use Rattle.ak_top.specs.Reading.{WasRead};
 ghost use Rattle.ak_top.specs.Refusals.{ScriptFault, FaultFor, TellsFault, TellsScript};
 ghost use Rattle.ak_top.specs.Stops.{IsStop, StopsFor, IsNoProgram, IsProgramOf, Refuses, Accepts};
 
-use crate::no_works::NoWorks;
 use crate::reading::{Text, read_script};
 use crate::stop::Stop;
 use ak_base::source::Source;
-use ak_cycle::cycle::run;
+use ak_crew::crew::crew;
 use ak_exec::built::first_unbuilt;
 use ak_history::event::History;
+use ak_labor::labor::Labor;
 use ak_machine::config::Config;
 use ak_program::program::Program;
 use ak_syntax::parse::parse;
 use ak_trace::entry::Trace;
 use ak_valid::validate::validate;
 use std::alloc::Global;
+use std::sync::Wait;
+use std::thread::Threads;
 
 /// The trace and the history of a run.
 #[derive(Debug, Drop)]
@@ -37,19 +41,29 @@ pub struct Ran {
 /// The kind of a script with a statement that is not built.
 const UNBUILT: u8 = 10;
 
-/// Reads a script and runs it.
-pub fn run_source<S: Source>(alloc: Global, config: Config, source: &mut S) -> Result<Ran, Stop>
-    requires { 1 ≤ config.limit }
-    ensures ran { IfOk result (λ ran. IsRun config (S.left source.old) ran.trace ran.history) }
-    ensures finished { IfOk result (λ ran. IsFinished (status_of ran.trace)) }
-    ensures stop { IfErr result (IsStop (Run config) (S.left source.old) (S.faults source.old) (S.faults source.new)) }
-    ensures refuses { (line kind : ℕ) → TellsFault (Run config) (S.left source.old) line kind → Refuses line kind result }
-    ensures accepts { TellsScript (Run config) (S.left source.old) → Accepts result }
+/// Reads a script and runs it. The hands come back; where there was no memory nothing is known of them.
+pub fn run_source<S: Source, L: Labor + Drop, R: Threads + Wait + Sync>(
+    rt: &R,
+    alloc: Global,
+    config: Config,
+    source: &mut S,
+    hands: Vec<L>,
+) -> (Result<Ran, Stop>, Vec<L>)
+    requires limit { 1 ≤ config.limit }
+    requires threads { (1 ≤ config.threads) × (config.threads ≤ 32) }
+    requires hands { (config.threads ≤ length hands.items) × AllByRecursion (λ h. L.carried h ≡ 0) hands.items }
+    ensures ran { IfOk result.0 (λ ran. IsRun config (S.left source.old) ran.trace ran.history) }
+    ensures finished { IfOk result.0 (λ ran. IsFinished (status_of ran.trace)) }
+    ensures carried { IfOk result.0 (λ ran. HaveCarried L.carried hands.items result.1.items ran.history) }
+    ensures kept { IfErr result.0 (AreKept hands.items result.1.items) }
+    ensures stop { IfErr result.0 (IsStop (Run config) (S.left source.old) (S.faults source.old) (S.faults source.new)) }
+    ensures refuses { (line kind : ℕ) → TellsFault (Run config) (S.left source.old) line kind → Refuses line kind result.0 }
+    ensures accepts { TellsScript (Run config) (S.left source.old) → Accepts result.0 }
     ensures faults { S.faults source.old ≤ S.faults source.new }
 {
     match read_script(alloc, source) {
-        Ok(text) => run_bytes(alloc, config, text.bytes()),
-        Err(error) => Err(Stop::from(error)),
+        Ok(text) => run_bytes(rt, alloc, config, text.bytes(), hands),
+        Err(error) => (Err(Stop::from(error)), hands),
     }
 }
 
@@ -81,35 +95,59 @@ fn check_bytes(alloc: Global, bytes: &[u8]) -> Result<(), Stop>
 }
 
 // Runs the script in these bytes.
-fn run_bytes(alloc: Global, config: Config, bytes: &[u8]) -> Result<Ran, Stop>
-    requires { 1 ≤ config.limit }
-    ensures ran { IfOk result (λ ran. RunsTo config bytes.now ran.trace ran.history) }
-    ensures finished { IfOk result (λ ran. IsFinished (status_of ran.trace)) }
-    ensures stop { IfErr result (StopsFor (Run config) bytes.now) }
-    ensures refuses { (line kind : ℕ) → FaultFor (Run config) bytes.now line kind → Refuses line kind result }
-    ensures accepts { (script : List Proc) → IsScript bytes.now script → AreBuilt (numbered script) → Accepts result }
+fn run_bytes<L: Labor + Drop, R: Threads + Wait + Sync>(
+    rt: &R,
+    alloc: Global,
+    config: Config,
+    bytes: &[u8],
+    hands: Vec<L>,
+) -> (Result<Ran, Stop>, Vec<L>)
+    requires limit { 1 ≤ config.limit }
+    requires threads { (1 ≤ config.threads) × (config.threads ≤ 32) }
+    requires hands { (config.threads ≤ length hands.items) × AllByRecursion (λ h. L.carried h ≡ 0) hands.items }
+    ensures ran { IfOk result.0 (λ ran. RunsTo config bytes.now ran.trace ran.history) }
+    ensures finished { IfOk result.0 (λ ran. IsFinished (status_of ran.trace)) }
+    ensures carried { IfOk result.0 (λ ran. HaveCarried L.carried hands.items result.1.items ran.history) }
+    ensures kept { IfErr result.0 (AreKept hands.items result.1.items) }
+    ensures stop { IfErr result.0 (StopsFor (Run config) bytes.now) }
+    ensures refuses { (line kind : ℕ) → FaultFor (Run config) bytes.now line kind → Refuses line kind result.0 }
+    ensures accepts { (script : List Proc) → IsScript bytes.now script → AreBuilt (numbered script) → Accepts result.0 }
 {
     match load_built(alloc, bytes) {
-        Ok(program) => run_program(alloc, config, bytes, program),
-        Err(stop) => Err(stop),
+        Ok(program) => run_program(rt, alloc, config, bytes, program, hands),
+        Err(stop) => (Err(stop), hands),
     }
 }
 
-// Runs a program over a pool without works.
-fn run_program(alloc: Global, config: Config, bytes: &[u8], program: Program) -> Result<Ran, Stop>
+// Runs a program over a crew.
+fn run_program<L: Labor + Drop, R: Threads + Wait + Sync>(
+    rt: &R,
+    alloc: Global,
+    config: Config,
+    bytes: &[u8],
+    program: Program,
+    hands: Vec<L>,
+) -> (Result<Ran, Stop>, Vec<L>)
     requires limit { 1 ≤ config.limit }
+    requires threads { (1 ≤ config.threads) × (config.threads ≤ 32) }
+    requires hands { (config.threads ≤ length hands.items) × AllByRecursion (λ h. L.carried h ≡ 0) hands.items }
     requires program { IsProgramOf bytes.now program }
     requires built { AreBuilt program.procs }
-    ensures ran { IfOk result (λ ran. RunsTo config bytes.now ran.trace ran.history) }
-    ensures finished { IfOk result (λ ran. IsFinished (status_of ran.trace)) }
-    ensures stop { IfErr result (λ stop. stop ≡ Stop.NoMemory) }
+    ensures ran { IfOk result.0 (λ ran. RunsTo config bytes.now ran.trace ran.history) }
+    ensures finished { IfOk result.0 (λ ran. IsFinished (status_of ran.trace)) }
+    ensures carried { IfOk result.0 (λ ran. HaveCarried L.carried hands.items result.1.items ran.history) }
+    ensures stop { IfErr result.0 (λ stop. stop ≡ Stop.NoMemory) }
 {
-    let mut pool = NoWorks::make(alloc, config.threads);
-    let trace = run(alloc, program, config, &mut pool)?;
-    Ok(Ran {
-        trace,
-        history: pool.into_history(),
-    })
+    match crew(rt, alloc, program, config, hands) {
+        Ok(ran) => (
+            Ok(Ran {
+                trace: ran.trace,
+                history: ran.history,
+            }),
+            ran.hands,
+        ),
+        Err(_) => (Err(Stop::NoMemory), Vec::new(alloc)),
+    }
 }
 
 // The program of the script in these bytes, each of whose statements is built.

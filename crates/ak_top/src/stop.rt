@@ -3,10 +3,8 @@
 ghost use Rattle.std.specs.Prelude.{◌≡◌};
 ghost use Rattle.ak_top.specs.Stops.{status_at};
 
-use crate::no_works::NoFault;
 use crate::reading::ReadError;
 use crate::status::Status;
-use ak_labor::port::PortError;
 use ak_syntax::refusal::ParseRefused;
 use ak_valid::refusal::ValidRefused;
 
@@ -71,20 +69,6 @@ impl From<ValidRefused> for Stop {
         match error {
             ValidRefused::At { line, kind } => Stop::Refused { line, kind },
             ValidRefused::NoMemory => Stop::NoMemory,
-        }
-    }
-}
-
-impl From<PortError<NoFault>> for Stop {
-    ghost use Rattle.std.specs.Prelude.{◌≡◌};
-    ghost use Rattle.ak_top.specs.declared.stop.Stop.TheVariants.{NoMemory};
-
-    ghost from_gives = { λ _ stop. stop ≡ NoMemory };
-
-    fn from(error: PortError<NoFault>) -> Stop {
-        match error {
-            PortError::Fault(fault) => match fault {},
-            PortError::NoMemory => Stop::NoMemory,
         }
     }
 }

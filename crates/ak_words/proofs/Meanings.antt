@@ -39,3 +39,20 @@ limit_behind given (name ∷ value ∷ words) c l h = limit_behind (with_setting
 
 pub has_limit : (words : List (List ℕ)) (config : Config) → Means words (Run config) → 1 ≤ config.limit
 has_limit words config h = limit_behind none_given h.0 config (omega arith) h.2
+
+-- the threads of the pool
+abbrev HasThreads : Given → Type 0
+HasThreads given = (1 ≤ or_default given.threads 4) × (or_default given.threads 4 ≤ 32)
+
+keeps_threads : (s : Setting) (n : ℕ) (given : Given) (value : List ℕ) → HasThreads given → IsValue s value n → HasThreads (with_setting s n given)
+keeps_threads Threads n given value h v = (v.2, v.3)
+keeps_threads Limit n given value h v = h
+keeps_threads Jobs n given value h v = h
+
+threads_behind : (given : Given) (words : List (List ℕ)) (c : Config) → HasThreads given → Continues given words c → (1 ≤ c.threads) × (c.threads ≤ 32)
+threads_behind given [] c l h = subst (λ (x : Config). (1 ≤ x.threads) × (x.threads ≤ 32)) (sym h) l
+threads_behind given (name ∷ []) c l h = absurd h
+threads_behind given (name ∷ value ∷ words) c l h = threads_behind (with_setting h.0 h.1 given) words c (keeps_threads h.0 h.1 given value l h.2.number) h.3
+
+pub has_threads : (words : List (List ℕ)) (config : Config) → Means words (Run config) → (1 ≤ config.threads) × (config.threads ≤ 32)
+has_threads words config h = threads_behind none_given h.0 config (omega arith, omega arith) h.2

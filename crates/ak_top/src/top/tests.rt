@@ -4,6 +4,7 @@ use super::*;
 use crate::status::message;
 use ak_base::list::{Items, NoMemory};
 use ak_base::memory::{MemSink, MemSource};
+use ak_crew::hands::plain_hands;
 
 const SCRIPT: &str = "proc main; print 7; end";
 
@@ -27,7 +28,8 @@ fn lines(alloc: Global, text: &str) -> Result<Vec<u8>, NoMemory> {
 }
 
 // The status of the command with these words, and what the sink took.
-fn outcome(
+fn outcome<R: Threads + Wait + Sync>(
+    rt: &R,
     alloc: Global,
     words: &[&str],
     mut source: MemSource,
@@ -37,40 +39,47 @@ fn outcome(
     for text in words {
         list.push(word(alloc, text)?)?;
     }
-    let report = top(alloc, list.as_slice(), &mut source, &mut sink);
+    let hands = plain_hands(alloc, 32)?;
+    let (report, _hands) = top(rt, alloc, list.as_slice(), &mut source, &mut sink, hands);
     let taken = Vec::from_slice(alloc, sink.taken())?;
     Ok((report.status, taken))
 }
 
 // The same with ample room and no faults.
-fn command_gives(
+fn command_gives<R: Threads + Wait + Sync>(
+    rt: &R,
     alloc: Global,
     words: &[&str],
     script: Vec<u8>,
 ) -> Result<(Status, Vec<u8>), NoMemory> {
     let source = MemSource::make(script, 4096, Vec::new(alloc));
     let sink = MemSink::make(alloc, 4_000_000, 4096, Vec::new(alloc))?;
-    outcome(alloc, words, source, sink)
+    outcome(rt, alloc, words, source, sink)
 }
 
 // The same for `run` and a short output, byte by byte, with calls that fail.
-fn faulty_run_gives(
+fn faulty_run_gives<R: Threads + Wait + Sync>(
+    rt: &R,
     alloc: Global,
     failing_reads: Vec<u32>,
     failing_writes: Vec<u32>,
 ) -> Result<(Status, Vec<u8>), NoMemory> {
     let source = MemSource::make(lines(alloc, SCRIPT)?, 1, failing_reads);
     let sink = MemSink::make(alloc, 100, 1, failing_writes)?;
-    outcome(alloc, &["run"], source, sink)
+    outcome(rt, alloc, &["run"], source, sink)
 }
 
 // A case of a command: its words, the script, the status and the output.
 type Case = (&'static [&'static str], &'static str, Status, &'static str);
 
 // Whether each case is as it is told.
-fn first_wrong(alloc: Global, cases: &[Case]) -> Result<Option<usize>, NoMemory> {
+fn first_wrong<R: Threads + Wait + Sync>(
+    rt: &R,
+    alloc: Global,
+    cases: &[Case],
+) -> Result<Option<usize>, NoMemory> {
     for (place, (words, script, status, output)) in cases.iter().enumerate() {
-        let (given, taken) = command_gives(alloc, words, lines(alloc, script)?)?;
+        let (given, taken) = command_gives(rt, alloc, words, lines(alloc, script)?)?;
         let wanted = lines(alloc, output)?;
         if given != *status || taken.as_slice() != wanted.as_slice() {
             return Ok(Some(place));
@@ -131,7 +140,7 @@ fn runs_are_told(rt: HostRuntime) -> Result<(), NoMemory> {
             "enq 0 normal; cycle; job 0; enq 1 normal; enq 2 normal; job 1; print 1; job 2; print 1; end idle; %pool; idle 4; close",
         ),
     ];
-    assert_eq!(rt; first_wrong(rt.alloc(), &cases)?, None);
+    assert_eq!(rt; first_wrong(&rt, rt.alloc(), &cases)?, None);
     Ok(())
 }
 
@@ -192,7 +201,7 @@ fn numbers_are_computed(rt: HostRuntime) -> Result<(), NoMemory> {
             "enq 0 normal; cycle; job 0; print 1; end idle; %pool; idle 2; close",
         ),
     ];
-    assert_eq!(rt; first_wrong(rt.alloc(), &cases)?, None);
+    assert_eq!(rt; first_wrong(&rt, rt.alloc(), &cases)?, None);
     Ok(())
 }
 
@@ -258,7 +267,7 @@ fn scripts_and_words_are_refused(rt: HostRuntime) -> Result<(), NoMemory> {
             "",
         ),
     ];
-    assert_eq!(rt; first_wrong(rt.alloc(), &cases)?, None);
+    assert_eq!(rt; first_wrong(&rt, rt.alloc(), &cases)?, None);
     Ok(())
 }
 
@@ -270,12 +279,12 @@ fn long_scripts_are_refused(rt: HostRuntime) -> Result<(), NoMemory> {
         statements.extend_from_slice(b"print 1\n")?;
     }
     statements.extend_from_slice(b"end\n")?;
-    let (status, taken) = command_gives(alloc, &["check"], statements)?;
+    let (status, taken) = command_gives(&rt, alloc, &["check"], statements)?;
     assert_eq!(rt; status, refused(66, 3));
     assert!(rt; taken.is_empty());
     for (size, line, kind) in [(1_048_576, 0, 5), (1_048_577, 0, 2)] {
         let text = vec![in alloc; b'#'; size]?;
-        let (status, taken) = command_gives(alloc, &["check"], text)?;
+        let (status, taken) = command_gives(&rt, alloc, &["check"], text)?;
         assert_eq!(rt; status, refused(line, kind));
         assert!(rt; taken.is_empty());
     }
@@ -289,7 +298,7 @@ fn a_run_without_an_end_meets_its_limit(rt: HostRuntime) -> Result<(), NoMemory>
         alloc,
         "proc main; ivar i; upon i A i; fill i 0; end; proc A v:num i:ivar; upon i A i; end",
     )?;
-    let (status, taken) = command_gives(alloc, &["run"], script)?;
+    let (status, taken) = command_gives(&rt, alloc, &["run"], script)?;
     let first = lines(
         alloc,
         "enq 0 normal; cycle; job 0; fill 0 0; enq 1 normal; job 1; enq 2 normal",
@@ -309,7 +318,7 @@ fn each_failing_read_writes_nothing(rt: HostRuntime) -> Result<(), NoMemory> {
     let alloc = rt.alloc();
     for call in 0..23 {
         let failing = vec![in alloc; call]?;
-        let (status, taken) = faulty_run_gives(alloc, failing, Vec::new(alloc))?;
+        let (status, taken) = faulty_run_gives(&rt, alloc, failing, Vec::new(alloc))?;
         assert_eq!(rt; status, Status::ReadFault);
         assert!(rt; taken.is_empty());
     }
@@ -322,7 +331,7 @@ fn each_failing_write_leaves_a_beginning(rt: HostRuntime) -> Result<(), NoMemory
     let output = lines(alloc, OUTPUT)?;
     for call in 0..61u32 {
         let failing = vec![in alloc; call]?;
-        let (status, taken) = faulty_run_gives(alloc, Vec::new(alloc), failing)?;
+        let (status, taken) = faulty_run_gives(&rt, alloc, Vec::new(alloc), failing)?;
         assert_eq!(rt; status, Status::WriteFault);
         assert_eq!(rt;
             Some(taken.as_slice()),

@@ -6,7 +6,7 @@ use Rattle.ak_machine.specs.declared.config.Config.{Config}
 use Rattle.ak_program.specs.Programs.{NumProgram}
 use Rattle.ak_cycle.specs.Runs.{WantsLast, WantsNext, IsNoMemory}
 use Rattle.ak_cycle.specs.Turns.{IsAt}
-use Rattle.ak_cycle.proofs.Under.{wants_close, wants_unasked, unasked}
+use Rattle.ak_cycle.proofs.Under.{wants_close, wants_unasked, unasked, none_out_closed}
 use Rattle.ak_cycle.proofs.cycle.run.Goals as goal
 
 pub returns-in_err-on-clause-fault : goal.returns-in_err-on-clause-fault
@@ -37,3 +37,7 @@ returns-in_err-close-clause-memory g c short =
     let failed : IsNoMemory c.close.result = search rules
     in let call = unasked _ _ _ _ _ _ _ c.close.ensures.asked failed
     in wants_unasked _ c.args.program c.args.config c.loop-on.world _ _ _ _ _ _ c.loop-on.invariant.at call.0 call.1 c.close.ensures.waits
+
+pub returns-clause-idle : goal.returns-clause-idle
+returns-clause-idle g c = λ ends.
+    none_out_closed (g.P.Port.asked c.loop-on.port) (g.P.Port.asked c.close.new.self) (g.P.Port.replies c.close.new.self) c.loop-on.invariant.at.no_work c.in_ok-close.ensures.asked.0

@@ -1,4 +1,4 @@
-use Rattle.std.proofs.Common.{◌≡◌, ap, sym, subst, length}
+use Rattle.std.proofs.Common.{◌≡◌, ◌+◌, ap, sym, subst, length, drop}
 use Rattle.ak_cells.specs.Names.{name_in}
 use Rattle.ak_machine.specs.Mapped.{ret_mapped}
 use Rattle.ak_exec.specs.Ready.{named}
@@ -6,7 +6,8 @@ use Rattle.ak_exec.specs.Seen.{Seen}
 use Rattle.ak_exec.specs.Fits.{RetFits, Fits}
 use Rattle.ak_exec.proofs.Lists.{cons_at}
 use Rattle.ak_exec.proofs.Typed.{head_told, head_ready, way_goes}
-use Rattle.ak_exec.proofs.Way.{line_goes, ended_same, ended_returned}
+use Rattle.ak_exec.proofs.Way.{line_goes, ended_same, ended_returned, goes_returns, ended_empty}
+use Rattle.ak_holders.specs.Returns.{IsEmptyResult}
 use Rattle.ak_exec.proofs.job.advance.Goals as goal
 
 pub run_line-requires-clause-told : goal.run_line-requires-clause-told
@@ -29,6 +30,9 @@ ended-requires c =
       ret = subst (λ (x : Seen). RetFits (length x.plain.cells.ivars) (ret_mapped (name_in x.names) c.args.ret.now)) (sym same) c.requires.way.ret_fits;
       ends = c.in_default.not-Goes;
       returned = ended_returned c.args.program.now.procs c.args.ctx.now _ c.args.parts.now c.run_line.new.parts (named c.args.parts.now c.args.vals.now) c.run_line.new.vals c.index-lines-k.result _ c.in_ok-step.step (rw e at c.requires.way) takes;
+      empty = λ v is.
+          subst (λ (x : Seen). IsEmptyResult (ret_mapped (name_in x.names) c.args.ret.now) x.plain) (sym same)
+          (ended_empty c.args.ctx.now _ c.args.parts.now c.run_line.new.parts (named c.args.parts.now c.args.vals.now) c.run_line.new.vals c.index-lines-k.result (drop (c.args.k + 1) c.args.lines.now) c.in_ok-step.step (rw e at c.requires.returns) takes v is);
       fits = subst (λ (x : Seen). Fits c.args.program.now.procs x.plain) (sym same) c.requires.way.fits;
     }
 
@@ -46,3 +50,9 @@ returns-in-Goes-clause-runs c =
     let e = cons_at c.args.lines.now c.args.k c.index-lines-k.result c.requires.some c.index-lines-k.is
     in let takes = rw c.in-Goes.is at c.in_ok-step.ensures.takes
     in line_goes c.args.ctx.now _ _ _ c.index-lines-k.result _ c.args.parts.now.plain c.run_line.new.parts.plain (named c.args.parts.now c.args.vals.now) (named c.run_line.new.parts c.run_line.new.vals) e (ap (λ ns. ret_mapped (name_in ns) c.args.ret.now) c.in_ok-step.ensures.names) takes
+
+pub returns-in-Goes-clause-returns : goal.returns-in-Goes-clause-returns
+returns-in-Goes-clause-returns c =
+    let e = cons_at c.args.lines.now c.args.k c.index-lines-k.result c.requires.some c.index-lines-k.is
+    in let takes = rw c.in-Goes.is at c.in_ok-step.ensures.takes
+    in goes_returns c.args.ctx.now _ _ c.index-lines-k.result (drop (c.args.k + 1) c.args.lines.now) c.args.parts.now.plain c.run_line.new.parts.plain (named c.args.parts.now c.args.vals.now) (named c.run_line.new.parts c.run_line.new.vals) (rw e at c.requires.returns) (ap (λ ns. ret_mapped (name_in ns) c.args.ret.now) c.in_ok-step.ensures.names) takes

@@ -4,6 +4,7 @@ use Rattle.ak_machine.specs.Job.{run_lines}
 use Rattle.ak_machine.specs.Mapped.{ret_mapped}
 use Rattle.ak_exec.specs.Ready.{named}
 use Rattle.ak_exec.specs.Fits.{IsUnderWay}
+use Rattle.ak_holders.specs.Returns.{LinesReturn}
 use Rattle.ak_exec.proofs.job.run_lines.Given as goal
 
 -- what is left comes to what all come to
@@ -11,5 +12,6 @@ abbrev pub invariant-loop-k : goal.invariant-loop-k
 invariant-loop-k l =
     record {
       way : IsUnderWay l.program.procs l.parts.plain (named l.parts l.vals) l.ctx (ret_mapped (name_in l.parts.names) l.ret) (drop l.k l.lines);
+      returns : LinesReturn l.ctx (ret_mapped (name_in l.parts.names) l.ret) (drop l.k l.lines) l.parts.plain (named l.parts l.vals);
       runs : run_lines l.ctx (ret_mapped (name_in l.initial.parts.names) l.ret) l.lines l.initial.parts.plain (named l.initial.parts l.initial.vals) ≡ run_lines l.ctx (ret_mapped (name_in l.parts.names) l.ret) (drop l.k l.lines) l.parts.plain (named l.parts l.vals);
     }

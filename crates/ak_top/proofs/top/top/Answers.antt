@@ -1,18 +1,40 @@
-use Rattle.std.proofs.Common.{ap, subst}
-use Rattle.ak_words.specs.declared.command.Command.TheVariants.{Run}
-use Rattle.ak_words.proofs.Meanings.{one_command, has_limit}
+use Rattle.std.proofs.Common.{ap, sym, subst, refl, arith, ◌∙◌}
+use Rattle.ak_words.specs.declared.command.Command.TheVariants.{Run, Check}
+use Rattle.ak_words.proofs.Meanings.{one_command, has_limit, has_threads}
 use Rattle.ak_top.specs.declared.status.Report.{Report}
 use Rattle.ak_top.specs.Reports.{Reports}
+use Rattle.ak_top.proofs.Hands.{after_command}
 use Rattle.ak_top.proofs.Usages.{usage_told}
 use Rattle.ak_top.proofs.top.top.Goals as goal
 
-pub run_command-requires : goal.run_command-requires
-run_command-requires g c = has_limit c.args.words.now c.in-Ok-Run.config (rw c.in-Ok-Run.field-0-is at c.in-Ok-Run.ensures.command)
+pub run_command-requires-clause-limit : goal.run_command-requires-clause-limit
+run_command-requires-clause-limit g c κs within = has_limit c.args.words.now c.in-Ok-Run.config (rw c.in-Ok-Run.field-0-is at c.in-Ok-Run.ensures.command)
+
+pub run_command-requires-clause-threads : goal.run_command-requires-clause-threads
+run_command-requires-clause-threads g c κs within = has_threads c.args.words.now c.in-Ok-Run.config (rw c.in-Ok-Run.field-0-is at c.in-Ok-Run.ensures.command)
+
+pub run_command-requires-clause-hands : goal.run_command-requires-clause-hands
+run_command-requires-clause-hands g c κs within =
+    let most = has_threads c.args.words.now c.in-Ok-Run.config (rw c.in-Ok-Run.field-0-is at c.in-Ok-Run.ensures.command) in
+    (omega (arith, most.1, c.requires.hands.0), c.requires.hands.1)
 
 pub returns-in-Ok-Run-clause-reports : goal.returns-in-Ok-Run-clause-reports
 returns-in-Ok-Run-clause-reports g c = λ command means.
-    subst (λ d. Reports d (g.S.Source.left c.args.source.now) c.run_command.result)
+    subst (λ d. Reports d (g.S.Source.left c.args.source.now) c.run_command.result.0)
     (one_command c.args.words.now (Run c.in-Ok-Run.config) command (rw c.in-Ok-Run.field-0-is at c.in-Ok-Run.ensures.command) means) c.run_command.ensures.reports
+
+pub returns-in-Ok-Run-clause-hands : goal.returns-in-Ok-Run-clause-hands
+returns-in-Ok-Run-clause-hands g c = λ command means.
+    after_command g.L.Labor.carried c.args.hands.items c.run_command.result.1.items (Run c.in-Ok-Run.config) command c.run_command.result.0
+    (one_command c.args.words.now (Run c.in-Ok-Run.config) command (rw c.in-Ok-Run.field-0-is at c.in-Ok-Run.ensures.command) means) c.run_command.ensures.hands
+
+pub returns-in-Ok-Check-clause-hands : goal.returns-in-Ok-Check-clause-hands
+returns-in-Ok-Check-clause-hands g c = λ command means.
+    after_command g.L.Labor.carried c.args.hands.items c.args.hands.items Check command c.check_command.result
+    (one_command c.args.words.now Check command (rw c.in-Ok-Check.field-0-is at c.in-Ok-Check.ensures.command) means) refl
+
+pub returns-in-Err-clause-hands : goal.returns-in-Err-clause-hands
+returns-in-Err-clause-hands g c = λ command means. absurd (c.in-Err.ensures.usage.no_command (command, means))
 
 pub returns-in-Err-clause-usage : goal.returns-in-Err-clause-usage
 returns-in-Err-clause-usage g c place =

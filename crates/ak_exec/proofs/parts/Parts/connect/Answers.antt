@@ -6,7 +6,7 @@ use Rattle.ak_frames.specs.declared.frame.Frame.{Frame}
 use Rattle.ak_trace.specs.declared.entry.Entry.TheVariants as entry
 use Rattle.ak_machine.specs.State.{State}
 use Rattle.ak_exec.specs.Seen.{enqueued_for, with_jobs}
-use Rattle.ak_exec.proofs.Stands.{connected_is, connect_is, seen_taken, seen_join}
+use Rattle.ak_exec.proofs.Stands.{never_full, connected_is, connect_is, seen_taken, seen_join}
 use Rattle.ak_exec.proofs.parts.Parts.connect.Goals as goal
 
 pub returns-in-Same : goal.returns-in-Same
@@ -16,12 +16,12 @@ returns-in-Same c =
     in let is : c.connect.new.cells.named ≡ connected c.args.r c.args.i cells = search rules
     in rw (← c.self.view_is, is ∙ connected_is cells c.args.r c.args.i Same told) (connect_is cells c.self.inside.queues.queues c.self.inside.trace c.args.r c.args.i Same told)
 
-pub returns-in-ResultFull : goal.returns-in-ResultFull
-returns-in-ResultFull c =
+-- the result is empty
+pub unreachable-requires : goal.unreachable-requires
+unreachable-requires c =
     let cells : NamedCells Frame = c.self.inside.cells.named
     in let told : connection_of c.args.r c.args.i cells ≡ ResultFull = search rules
-    in let is : c.connect.new.cells.named ≡ connected c.args.r c.args.i cells = search rules
-    in rw (← c.self.view_is, is ∙ connected_is cells c.args.r c.args.i ResultFull told) (connect_is cells c.self.inside.queues.queues c.self.inside.trace c.args.r c.args.i ResultFull told)
+    in never_full cells c.self.inside.queues.queues c.self.inside.trace c.args.r c.args.i (rw (← c.self.view_is) at c.requires.empty) told
 
 pub returns-in_ok-note_fill-in-Filled : goal.returns-in_ok-note_fill-in-Filled
 returns-in_ok-note_fill-in-Filled c =

@@ -1,0 +1,16 @@
+use Rattle.std.proofs.Common.{◌≡◌, [], false, sym, subst, rules}
+use Rattle.ak_exec.specs.Worlds.{first_state}
+use Rattle.ak_holders.specs.Held.{HeldBy}
+use Rattle.ak_holders.proofs.Carry.{first_held}
+use Rattle.ak_exec.proofs.world.World.make.Goals as goal
+
+pub invariant_of-result : goal.invariant_of-result
+invariant_of-result c =
+    let e : c.enqueue.new.self.plain ≡ first_state c.args.program c.args.config = search rules
+    in record {
+      built = search rules;
+      limit = search rules;
+      fits = search rules;
+      picked = tt;
+      held = subst (HeldBy c.args.program.procs []) (sym e) (first_held c.args.program.procs c.args.program.main c.main.ensures.sound (record { mon = 0; low = false }) c.args.config.limit);
+    }
