@@ -118,28 +118,3 @@ impl Groups {
         self.groups[g.number() as usize].part(k)
     }
 }
-
-#[cfg(test)]
-mod tests {
-    use super::*;
-
-    #[test]
-    fn group_is_decided_once(rt: HostRuntime) -> Result<(), NoMemory> {
-        let mut groups = Groups::make(rt.alloc());
-        let guard = groups.begin(0)?;
-        let all = groups.begin(2)?;
-        assert_eq!(rt; (guard.number(), all.number()), (0, 1));
-        assert!(rt; groups.decide(guard) && !groups.decide(guard) && groups.undecided(all));
-        assert!(rt; !groups.set_part(all, 1, 5) && groups.set_part(all, 0, -3));
-        assert_eq!(rt;
-            (groups.part(all, 0), groups.part(all, 2)),
-            (Some(-3), None)
-        );
-        groups.note(all, RegNo::new(4))?;
-        groups.note(all, RegNo::new(2))?;
-        assert_eq!(rt; groups.next_note(all), Some(RegNo::new(4)));
-        assert_eq!(rt; groups.next_note(all), Some(RegNo::new(2)));
-        assert!(rt; groups.next_note(all).is_none());
-        Ok(())
-    }
-}

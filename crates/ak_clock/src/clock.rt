@@ -239,20 +239,3 @@ fn place(alarms: &[Alarm], e: EventNo) -> Option<usize>
     }
     None
 }
-
-#[cfg(test)]
-mod tests {
-    use super::*;
-
-    #[test]
-    fn alarms_are_due_by_time_and_number(rt: HostRuntime) -> Result<(), NoMemory> {
-        let mut clock = Clock::make(rt.alloc());
-        assert!(rt; clock.after(IvarNo::new(0), 5).is_ok());
-        clock.yield_next(IvarNo::new(3))?;
-        assert_eq!(rt; clock.tick(5), Ok(()));
-        assert_eq!(rt; clock.due(), Some(IvarNo::new(0)));
-        assert_eq!(rt; clock.next_yield(), Some(IvarNo::new(3)));
-        assert!(rt; !clock.any_due() && !clock.any_yield());
-        Ok(())
-    }
-}

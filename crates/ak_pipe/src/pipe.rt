@@ -342,28 +342,3 @@ fn is_front_settled(flushes: &VecDeque<Flush>, consumed: u32, reader_closed: boo
         None => false,
     }
 }
-
-#[cfg(test)]
-mod tests {
-    use super::*;
-
-    #[test]
-    fn numbers_go_in_and_out(rt: HostRuntime) -> Result<(), NoMemory> {
-        let mut pipe = Pipe::make(rt.alloc(), 0);
-        assert!(rt;
-            matches!(
-                pipe.write(7, IvarNo::new(0)),
-                Ok(Wrote {
-                    served: None,
-                    free: false
-                })
-            )
-        );
-        assert!(rt; matches!(pipe.put(8), Ok(None)));
-        assert_eq!(rt; pipe.flushed(IvarNo::new(1))?, None);
-        assert!(rt; matches!(pipe.read('a'), Ok(Got::Item { num: 7, r: 'a' })));
-        assert!(rt; matches!(pipe.read('b'), Ok(Got::Item { num: 8, r: 'b' })));
-        assert!(rt; matches!(pipe.read('c'), Ok(Got::Waits)));
-        Ok(())
-    }
-}

@@ -295,18 +295,3 @@ fn is_reached(marks: &VecDeque<Mark>, over: u32) -> bool
         None => false,
     }
 }
-
-#[cfg(test)]
-mod tests {
-    use super::*;
-
-    #[test]
-    fn second_body_waits(rt: HostRuntime) -> Result<(), NoMemory> {
-        let mut throttle = Throttle::make(rt.alloc(), 1, false);
-        assert!(rt; matches!(throttle.enqueue('a'), Ok(Enqueued::Start { body: 'a', .. })));
-        assert!(rt; matches!(throttle.enqueue('b'), Ok(Enqueued::Waits { .. })));
-        assert!(rt; !throttle.done_when(IvarNo::new(9))?);
-        assert!(rt; throttle.next_done().is_none() && throttle.next_dropped().is_none());
-        Ok(())
-    }
-}

@@ -1,0 +1,16 @@
+//! Tests of the parts of the scheduler, of the pool and of a command's words. They stand in a crate
+//! of their own, so that no crate below is proved a second time for its tests.
+#![tactic(auto)]
+
+#[cfg(test)]
+mod choice;
+#[cfg(test)]
+mod clock;
+#[cfg(test)]
+mod monitor;
+#[cfg(test)]
+mod pipe;
+#[cfg(test)]
+mod rings;
+#[cfg(test)]
+mod throttle;
