@@ -1,10 +1,13 @@
 //! Those who do the works.
 
-ghost use Rattle.std.specs.Prelude.{ℕ, ◌≡◌, ◌+◌, ◌-◌, ◌/◌, ◌<◌, ◌≤◌, ◌^◌, pos};
+ghost use Rattle.std.specs.Prelude.{ℕ, ◌≡◌, ◌+◌, ◌-◌, ◌/◌, ◌<◌, ◌≤◌, ◌^◌, pos, length, IfOk};
+ghost use Rattle.std.specs.List.{AllByRecursion};
 ghost use Rattle.ak_labor.specs.Value.{value_of, square_of, mix_of, mixed};
 
 use crate::work::{Outcome, Work, WorkKind};
+use ak_base::list::NoMemory;
 use ak_base::number::Num;
+use std::alloc::Global;
 use std::marker::Model;
 
 /// A hand that does works, one after another (own).
@@ -50,6 +53,22 @@ impl Labor for Plain {
         self.carried += 1;
         value(work)
     }
+}
+
+/// So many hands, each of which has done nothing.
+///
+/// # Errors
+///
+/// `NoMemory`.
+pub fn plain_hands(alloc: Global, count: u32) -> Result<Vec<Plain>, NoMemory>
+    ensures count { IfOk result (λ hands. length hands.items ≡ count) }
+    ensures fresh { IfOk result (λ hands. AllByRecursion (λ hand. hand ≡ 0) hands.items) }
+{
+    let mut hands = Vec::with_capacity(alloc, count as usize)?;
+    for _ in 0..count {
+        hands.push_reserved(Plain::make());
+    }
+    Ok(hands)
 }
 
 /// The greatest number that is mixed.

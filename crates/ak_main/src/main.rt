@@ -8,8 +8,7 @@ ghost use Rattle.std.specs.List.{AllByRecursion};
 
 use crate::streams::{StdSink, StdSource};
 use ak_base::list::{Items, Word};
-use ak_crew::hands::plain_hands;
-use ak_labor::labor::Plain;
+use ak_labor::labor::{Plain, plain_hands};
 use ak_top::status::{Status, message};
 use ak_top::top::top;
 use std::env;

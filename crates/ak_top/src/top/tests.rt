@@ -4,7 +4,7 @@ use super::*;
 use crate::status::message;
 use ak_base::list::{Items, NoMemory};
 use ak_base::memory::{MemSink, MemSource};
-use ak_crew::hands::plain_hands;
+use ak_labor::labor::plain_hands;
 
 const SCRIPT: &str = "proc main; print 7; end";
 
