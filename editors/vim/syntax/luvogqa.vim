@@ -1,12 +1,9 @@
-" Scripts of Luvogqa. Copy syntax/ and ftdetect/ into ~/.vim (Neovim: ~/.config/nvim).
+" Vim syntax file for the scripts of Luvogqa: docs/LANGUAGE.md has the language.
 if exists('b:current_syntax')
   finish
 endif
 
-" A keyword stands first on its line, or behind `if a` or `unless a`: all other words may be names.
-syntax match luvogqaComment /#.*$/
-syntax match luvogqaNumber /\(^\|\s\)\@<=-\?\d\+\ze\(\s\|#\|$\)/
-syntax match luvogqaOperator /\(\s\)\@<=\(+\|-\|\*\|\/\|%\|<=\|<\|!=\|=\)\ze\s/
+syntax case match
 
 " Numbers and errors:    set x a op b | print a | raise a | send m a | ret a | stop
 " Deferreds:             ivar i | fill i a | offer i a | upon d P args | bind r d P args | never r | yield r
@@ -19,33 +16,36 @@ syntax match luvogqaOperator /\(\s\)\@<=\(+\|-\|\*\|\/\|%\|<=\|<\|!=\|=\)\ze\s/
 " Pipes:                 pipe p b | write r p a | put p a | rd r p P args else Q args
 "                        close p | closeread p | flushed r p
 " Works:                 work r K a | helper h x | hwork r h K a | hdone h
-syntax match luvogqaFirst /^\s*/ nextgroup=luvogqaStatement
-syntax match luvogqaStatement /\<\(set\|print\|raise\|send\|ret\|stop\|ivar\|fill\|offer\|upon\|bind\|never\|yield\|all\|any\|choose\|sched\|low\|after\|event\|abort\|tick\|monitor\|within\|detach\|onerror\|nexterr\|try\|throttle\|enqueue\|tdone\|pipe\|write\|put\|rd\|close\|closeread\|flushed\|work\|helper\|hwork\|hdone\)\ze\(\s\|#\|$\)/ contained
 
-" What stands first on its line is tried before a statement, since it comes later here.
-syntax match luvogqaProc /^\s*proc\s\+\h\w*/ contains=luvogqaProcWord
-syntax match luvogqaProcWord /^\s*proc\>/ contained
-syntax match luvogqaEnd /^\s*end\ze\s*\(#\|$\)/
-syntax match luvogqaKind /:\(num\|ivar\|def\|mon\|pipe\|thr\|event\|helper\)\ze\(\s\|#\|$\)/
+" A line begins with its statement; `if a` and `unless a` may stand in front of one that binds nothing.
+syntax match luvogqaPrefix "^\s*\zs\(if\|unless\)\ze\s\+\S\+\s"
+syntax match luvogqaFrame "^\s*\zs\(proc\|end\)\ze\(\s\|#\|$\)"
+syntax match luvogqaStatement "\(^\s*\(\(if\|unless\)\s\+\S\+\s\+\)\?\)\@<=\(fill\|offer\|upon\|sched\|low\|print\)\ze\(\s\|#\|$\)"
+syntax match luvogqaStatement "\(^\s*\(\(if\|unless\)\s\+\S\+\s\+\)\?\)\@<=\(abort\|tick\|within\|detach\|onerror\|raise\|send\)\ze\(\s\|#\|$\)"
+syntax match luvogqaStatement "\(^\s*\(\(if\|unless\)\s\+\S\+\s\+\)\?\)\@<=\(put\|close\|closeread\|hdone\|stop\|ret\)\ze\(\s\|#\|$\)"
+syntax match luvogqaBinding "^\s*\zs\(set\|ivar\|bind\|all\|any\|choose\|yield\|never\|after\|event\)\ze\(\s\|#\|$\)"
+syntax match luvogqaBinding "^\s*\zs\(monitor\|nexterr\|try\|throttle\|enqueue\|tdone\|pipe\|write\|rd\|flushed\)\ze\(\s\|#\|$\)"
+syntax match luvogqaBinding "^\s*\zs\(work\|helper\|hwork\)\ze\(\s\|#\|$\)"
 
-syntax match luvogqaPrefix /^\s*\(if\|unless\)\>/ nextgroup=luvogqaCondition skipwhite
-syntax match luvogqaCondition /\(-\?\d\+\|\h\w*\)/ contained nextgroup=luvogqaStatement skipwhite
+" Words in the middle of a statement.
+syntax match luvogqaMiddle "\s\zs\(then\|with\|else\|rest\)\ze\(\s\|#\|$\)"
+syntax match luvogqaMode "\(^\s*throttle\s.*\s\)\@<=\(stop\|go\)\ze\s*\(#\|$\)"
+syntax match luvogqaWork "\(^\s*h\?work\s.*\s\)\@<=\(square\|mix\|fail\)\ze\s"
+syntax match luvogqaKind ":\(num\|ivar\|def\|mon\|pipe\|thr\|event\|helper\)\ze\(\s\|#\|$\)"
+syntax match luvogqaOperator "\s\zs\(+\|-\|\*\|/\|%\|<\|<=\|=\|!=\)\ze\s"
+syntax match luvogqaNumber "\(^\|\s\)\zs-\?\d\+\ze\(\s\|#\|$\)"
+syntax match luvogqaComment "#.*$"
 
-" The words that no name may be, and the words of works and throttles behind their statements.
-syntax match luvogqaReserved /\(\s\)\@<=\(then\|with\|else\|rest\)\ze\(\s\|#\|$\)/
-syntax match luvogqaWord /\(^\s*\(if\s\+\S\+\s\+\|unless\s\+\S\+\s\+\)\?h\?work\s.*\s\)\@<=\(square\|mix\|fail\)\ze\s/
-syntax match luvogqaWord /\(^\s*throttle\s\+\S\+\s\+\S\+\s\+\)\@<=\(stop\|go\)\ze\s*\(#\|$\)/
-
-highlight default link luvogqaComment Comment
-highlight default link luvogqaNumber Number
-highlight default link luvogqaOperator Operator
-highlight default link luvogqaProc Function
-highlight default link luvogqaProcWord Keyword
-highlight default link luvogqaEnd Keyword
-highlight default link luvogqaKind Type
 highlight default link luvogqaPrefix Conditional
+highlight default link luvogqaFrame Structure
 highlight default link luvogqaStatement Statement
-highlight default link luvogqaReserved Keyword
-highlight default link luvogqaWord Constant
+highlight default link luvogqaBinding Keyword
+highlight default link luvogqaMiddle Keyword
+highlight default link luvogqaMode Constant
+highlight default link luvogqaWork Constant
+highlight default link luvogqaKind Type
+highlight default link luvogqaOperator Operator
+highlight default link luvogqaNumber Number
+highlight default link luvogqaComment Comment
 
 let b:current_syntax = 'luvogqa'
