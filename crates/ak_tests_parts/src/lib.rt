@@ -11,6 +11,8 @@ mod monitor;
 #[cfg(test)]
 mod pipe;
 #[cfg(test)]
+mod pool;
+#[cfg(test)]
 mod rings;
 #[cfg(test)]
 mod throttle;
