@@ -1,5 +1,5 @@
 //! Tests of what stands below the machine and is text: bytes that go in and out, numbers, works,
-//! rows, traces, histories and scripts. They stand in a crate of their own, so that no crate below
+//! rows, traces and histories. They stand in a crate of their own, so that no crate below
 //! is proved a second time for its tests.
 #![tactic(auto)]
 
