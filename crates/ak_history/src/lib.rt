@@ -7,6 +7,4 @@ pub mod laws;
 pub mod line;
 pub mod reading;
 pub mod refusal;
-#[cfg(test)]
-mod tests;
 pub mod text;

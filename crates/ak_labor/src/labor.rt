@@ -128,33 +128,3 @@ fn step(state: u64) -> u64
         .wrapping_mul(6_364_136_223_846_793_005)
         .wrapping_add(1_442_695_040_888_963_407)
 }
-
-#[cfg(test)]
-mod tests {
-    use super::*;
-    use std::test::Fail;
-
-    #[test]
-    fn plain_gives_the_values(rt: HostRuntime) -> Result<(), Fail> {
-        let rows = [
-            (WorkKind::Square, 3, Outcome::Good(9)),
-            (
-                WorkKind::Square,
-                3_037_000_499,
-                Outcome::Good(9_223_372_030_926_249_001),
-            ),
-            (WorkKind::Square, 3_037_000_500, Outcome::Bad(-8)),
-            (WorkKind::Square, i64::MIN, Outcome::Bad(-8)),
-            (WorkKind::Mix, 0, Outcome::Good(0)),
-            (WorkKind::Mix, 1, Outcome::Good(1_817_669_548)),
-            (WorkKind::Mix, -1, Outcome::Bad(-8)),
-            (WorkKind::Mix, 1_000_001, Outcome::Bad(-8)),
-            (WorkKind::Fail, -7, Outcome::Bad(-7)),
-        ];
-        for (kind, num, outcome) in rows {
-            let mut hand = Plain::make();
-            assert_eq!(rt; hand.carry(&Work { kind, num }), outcome);
-        }
-        Ok(())
-    }
-}

@@ -13,4 +13,3 @@ pub mod Legality
 pub mod Noting
 pub mod Pools
 pub mod Checks
-pub mod Tried

@@ -61,7 +61,7 @@ impl Pool {
 }
 
 // Whether the event is legal next.
-pub(crate) fn fits(desk: &Desk, event: &Event) -> bool
+fn fits(desk: &Desk, event: &Event) -> bool
     ensures { MatchBool result (Fits desk.now event.now) (Fits desk.now event.now → ⊥) }
 {
     match event {
@@ -213,102 +213,4 @@ fn begin(desk: &mut Desk, thread: ThreadNo)
     ensures { desk.new ≡ begun_by (next_of desk.old thread) thread desk.old }
 {
     let _task = desk.begin(thread.number() as usize);
-}
-
-#[cfg(test)]
-mod tests {
-    use super::*;
-    use ak_base::list::Items;
-    use ak_labor::work::{Work, WorkKind};
-    use std::test::Fail;
-
-    // A helper that has a work when it ends, and a general work that waits for its thread; the last but two of the
-    // events fetches these works.
-    fn with_drain(alloc: Global, ids: Vec<WorkNo>) -> Result<History, NoMemory> {
-        let (zero, one) = (WorkNo::new(0), WorkNo::new(1));
-        let (thread, helper) = (ThreadNo::new(0), HelperNo::new(0));
-        let kind = WorkKind::Square;
-        let mut history = Items::make(alloc);
-        history.push(Event::Drain {
-            ids: Items::make(alloc),
-        })?;
-        history.push(Event::HelperNew {
-            no: helper,
-            answer: Some(thread),
-        })?;
-        history.push(Event::HelperNew {
-            no: HelperNo::new(1),
-            answer: None,
-        })?;
-        history.push(Event::Submit {
-            id: zero,
-            work: Work { kind, num: 3 },
-            helper: None,
-        })?;
-        history.push(Event::Submit {
-            id: one,
-            work: Work { kind, num: 4 },
-            helper: Some(helper),
-        })?;
-        history.push(Event::HelperEnd { no: helper })?;
-        history.push(Event::Drain {
-            ids: Items::make(alloc),
-        })?;
-        history.push(Event::Drain {
-            ids: Items::make(alloc),
-        })?;
-        history.push(Event::Start { thread, id: one })?;
-        history.push(Event::Finish {
-            thread,
-            id: one,
-            outcome: Outcome::Good(16),
-        })?;
-        history.push(Event::Start { thread, id: zero })?;
-        history.push(Event::Finish {
-            thread,
-            id: zero,
-            outcome: Outcome::Good(9),
-        })?;
-        history.push(Event::Drain {
-            ids: Items::from_vec(ids),
-        })?;
-        history.push(Event::Drain {
-            ids: Items::make(alloc),
-        })?;
-        history.push(Event::Close)?;
-        Ok(history)
-    }
-
-    fn judged<R: std::process::Abort>(
-        rt: &R,
-        alloc: Global,
-        history: &History,
-        threads: u32,
-    ) -> Result<(), CheckRefused> {
-        assert!(rt; history.len() < 100);
-        Pool::check(alloc, history, threads)
-    }
-
-    #[test]
-    fn a_drain_fetches_every_finished_work(rt: HostRuntime) -> Result<(), Fail> {
-        let (zero, one) = (WorkNo::new(0), WorkNo::new(1));
-        let history = with_drain(rt.alloc(), vec![in rt.alloc(); one, zero]?)?;
-        assert_eq!(rt; judged(&rt, rt.alloc(), &history, 1), Ok(()));
-        assert_eq!(rt;
-            judged(&rt, rt.alloc(), &history, 2),
-            Err(CheckRefused::Illegal { place: 2 })
-        );
-        for ids in [
-            vec![in rt.alloc(); one]?,
-            vec![in rt.alloc(); zero, one]?,
-            vec![in rt.alloc()]?,
-        ] {
-            let history = with_drain(rt.alloc(), ids)?;
-            assert_eq!(rt;
-                judged(&rt, rt.alloc(), &history, 1),
-                Err(CheckRefused::Illegal { place: 12 })
-            );
-        }
-        Ok(())
-    }
 }

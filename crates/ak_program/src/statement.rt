@@ -4,6 +4,7 @@ use ak_base::list::Items;
 use ak_base::number::Num;
 use ak_labor::work::WorkKind;
 use ak_script::statement::Operator;
+use std::fmt;
 
 /// A number, or a local by its place.
 #[derive(Clone, Copy, PartialEq, Eq, Debug)]
@@ -29,7 +30,7 @@ pub struct NumChoice {
 pub type NumChoices = Items<NumChoice>;
 
 /// A statement of a program: that of the script, with procedures and locals by their places.
-#[derive(Debug, Drop)]
+#[derive(Drop)]
 pub enum NumStmt {
     Set {
         x: usize,
@@ -209,4 +210,11 @@ pub enum NumStmt {
     Ret {
         a: NumAtom,
     },
+}
+
+// The name alone: derived, the parts of so many variants take half a minute to prove.
+impl fmt::Debug for NumStmt {
+    fn fmt<W: fmt::Write>(&self, f: &mut fmt::Formatter<W>) -> fmt::Result {
+        f.debug_struct("NumStmt").finish_non_exhaustive()
+    }
 }

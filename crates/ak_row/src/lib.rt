@@ -4,6 +4,4 @@
 pub mod laws;
 pub mod line;
 pub mod row;
-#[cfg(test)]
-mod tests;
 pub mod word;

@@ -2,6 +2,7 @@
 
 use ak_base::list::{Items, Word};
 use ak_base::number::Num;
+use std::fmt;
 
 /// A number, or the name of a local.
 #[derive(Debug, Drop)]
@@ -49,7 +50,7 @@ pub enum WorkWord {
 }
 
 /// A statement: one variant for each row of the table of statements, its fields in the order of the row's words.
-#[derive(Debug, Drop)]
+#[derive(Drop)]
 pub enum Stmt {
     Set {
         x: Word,
@@ -229,4 +230,11 @@ pub enum Stmt {
     Ret {
         a: Atom,
     },
+}
+
+// The name alone: derived, the parts of so many variants take half a minute to prove.
+impl fmt::Debug for Stmt {
+    fn fmt<W: fmt::Write>(&self, f: &mut fmt::Formatter<W>) -> fmt::Result {
+        f.debug_struct("Stmt").finish_non_exhaustive()
+    }
 }

@@ -13,6 +13,4 @@ mod reader;
 pub mod refusal;
 mod rows;
 mod shape;
-#[cfg(test)]
-mod tests;
 mod word;

@@ -1,4 +1,4 @@
-//! Tests of the parts of the scheduler, of the pool and of a command's words. They stand in a crate
+//! Tests of the parts of the scheduler, of the pool and of its judge. They stand in a crate
 //! of their own, so that no crate below is proved a second time for its tests.
 #![tactic(auto)]
 
@@ -10,6 +10,8 @@ mod clock;
 mod monitor;
 #[cfg(test)]
 mod pipe;
+#[cfg(test)]
+mod pool;
 #[cfg(test)]
 mod rings;
 #[cfg(test)]

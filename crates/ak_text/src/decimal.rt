@@ -34,25 +34,3 @@ fn copy(text: &[u8], out: &mut [u8; 20]) -> usize
     out[..text.len()].copy_from_slice(text);
     text.len()
 }
-
-#[cfg(test)]
-mod tests {
-    use super::*;
-
-    #[test]
-    fn numbers_are_written_plainly(rt: HostRuntime) {
-        let mut out = [0; 20];
-        for (n, text) in [
-            (0, "0"),
-            (-7, "-7"),
-            (100, "100"),
-            (i64::MAX, "9223372036854775807"),
-            (i64::MIN, "-9223372036854775808"),
-        ] {
-            let len = write_num(n, &mut out);
-            assert_eq!(rt; &out[..len], text.as_bytes());
-        }
-        let len = write_u64(u64::MAX, &mut out);
-        assert_eq!(rt; &out[..len], b"18446744073709551615".as_slice());
-    }
-}

@@ -7,6 +7,4 @@ pub mod laws;
 pub mod read;
 pub mod refusal;
 mod rows;
-#[cfg(test)]
-mod tests;
 pub mod text;

@@ -12,8 +12,6 @@ mod places;
 mod procs;
 pub mod refusal;
 mod statements;
-#[cfg(test)]
-mod tests;
 mod uses;
 pub mod validate;
 pub mod verdict;

@@ -1,21 +1,21 @@
 //! Texts of scripts, and what is wrong with those that are none.
 
-use crate::parse::parse;
-use crate::refusal::ParseRefused;
+use crate::case::case_of;
+use ak_syntax::parse::parse;
+use ak_syntax::refusal::ParseRefused;
 use std::alloc::{AllocError, Global};
 
 /// The line of the fault and its kind, both 0 for a script.
-fn verdict_on(alloc: Global, text: &[u8]) -> (u32, u8) {
+fn fault_of(alloc: Global, text: &[u8]) -> Result<(u32, u8), AllocError> {
     match parse(alloc, text) {
-        Ok(_script) => (0, 0),
-        Err(ParseRefused::At { line, kind }) => (line, kind),
-        Err(ParseRefused::NoMemory) => (0, 255),
+        Ok(_script) => Ok((0, 0)),
+        Err(ParseRefused::At { line, kind }) => Ok((line, kind)),
+        Err(ParseRefused::NoMemory) => Err(AllocError),
     }
 }
 
-/// A row to a line: the digit of the line and of the kind, both 0 for a script, a space, and the text with `;` for each
-/// end of a line.
-const ROWS: &[u8] = b"00 proc main;set x a + b;end
+/// A row to a line, as `case_of` reads it.
+const ROWS: &str = "00 proc main;set x a + b;end
 00 proc main;set x 1 != -2;end
 00 proc main;set x 1 - 2;end
 21 proc main;set x a ++ b;end
@@ -184,11 +184,11 @@ const ROWS: &[u8] = b"00 proc main;set x a + b;end
 21 proc main;Print 1;end
 21 proc main;proc A;end
 00 proc main;print\t1;end
-00 proc main;\tprint 1 # \x01\xff;end
-00 proc main;# \xff;end
+00 proc main;\tprint 1 # \x01é;end
+00 proc main;# é;end
 21 proc main;print 1 \x01;end
 21 proc main;\x7f;end
-21 proc main;print 5x \xff;end
+21 proc main;print 5x é;end
 00 proc main;print 1#a#\x01;end
 21 proc main;print\r 1;end
 00 proc main;ivar aaaaaaaaaaaaaaaaaaaaaaaaaaaaaaaa;end
@@ -227,83 +227,60 @@ const ROWS: &[u8] = b"00 proc main;set x a + b;end
 24 proc main;print 99999999999999999999;end
 21 proc main;if 1 ivar i;end";
 
-fn with_line_ends(alloc: Global, text: &[u8]) -> Result<Vec<u8>, AllocError> {
-    text.iter()
-        .map(|byte| if *byte == b';' { b'\n' } else { *byte })
-        .collect(alloc)
-}
-
 #[test]
-fn rows(rt: HostRuntime) {
-    for row in ROWS.split(|byte| *byte == b'\n') {
-        let wanted = match row {
-            [line, kind, ..] => (u32::from(*line), *kind),
-            _ => (0, 0),
-        };
-        let text = match row {
-            [_, _, _, text @ ..] => text,
-            _ => row,
-        };
-        let found = match with_line_ends(rt.alloc(), text) {
-            Ok(text) => verdict_on(rt.alloc(), &text),
-            Err(_) => (0, 255),
-        };
-        assert_eq!(rt;
-            (found.0.wrapping_add(48), found.1.wrapping_add(48)),
-            wanted
-        );
+fn first_faults_of_texts(rt: HostRuntime) -> Result<(), AllocError> {
+    for row in ROWS.split('\n') {
+        let case = case_of(rt.alloc(), row)?;
+        assert_eq!(rt; fault_of(rt.alloc(), &case.text)?, case.fault, "{row}");
     }
+    Ok(())
 }
 
 /// The head, the line a number of times, and the tail.
 fn repeated(
     alloc: Global,
-    head: &[u8],
-    line: &[u8],
+    head: &str,
+    line: &str,
     count: u32,
-    tail: &[u8],
+    tail: &str,
 ) -> Result<Vec<u8>, AllocError> {
-    let mut text = Vec::from_slice(alloc, head)?;
+    let mut text = Vec::from_slice(alloc, head.as_bytes())?;
     for _ in 0..count {
-        text.extend_from_slice(line)?;
+        text.extend_from_slice(line.as_bytes())?;
     }
-    text.extend_from_slice(tail)?;
+    text.extend_from_slice(tail.as_bytes())?;
     Ok(text)
 }
 
+const MAIN: &str = "proc main\n";
+
+const EIGHT: &str = "proc main a:num b:num c:num d:num e:num f:num g:num h:num\n";
+
+const EVENT: &str = "event e q 5\n";
+
+const EMPTY: &str = "proc a\nend\n";
+
 #[test]
-fn limits(rt: HostRuntime) {
-    let params = b"proc main a:num b:num c:num d:num e:num f:num g:num h:num\n".as_slice();
-    let main = b"proc main\n".as_slice();
-    let end = b"end\n".as_slice();
-    let none = b"".as_slice();
-    let print = b"print 1\n".as_slice();
-    let ivar = b"ivar i\n".as_slice();
-    let event = b"event e q 5\n".as_slice();
-    let proc = b"proc a\nend\n".as_slice();
-    let sign = b"#".as_slice();
-    let cases = [
-        (main, print, 64, end, (0, 0)),
-        (main, print, 65, end, (66, 3)),
-        (main, print, 64, b"print 5x\nend\n".as_slice(), (66, 3)),
-        (main, print, 64, b"print\nend\n".as_slice(), (66, 1)),
-        (params, ivar, 56, end, (0, 0)),
-        (params, ivar, 57, end, (58, 3)),
-        (params, ivar, 55, b"event e q 5\nend\n".as_slice(), (57, 3)),
-        (main, event, 32, end, (0, 0)),
-        (main, event, 33, end, (34, 3)),
-        (none, proc, 4096, none, (0, 0)),
-        (none, proc, 4097, none, (8193, 3)),
-        (none, proc, 4096, b"proc a v\n".as_slice(), (8193, 1)),
-        (none, sign, 1_048_576, none, (0, 0)),
-        (none, sign, 1_048_577, none, (0, 2)),
-        (b"foo\n".as_slice(), sign, 1_048_576, none, (0, 2)),
-    ];
-    for (head, line, count, tail, wanted) in cases {
-        let found = match repeated(rt.alloc(), head, line, count, tail) {
-            Ok(text) => verdict_on(rt.alloc(), &text),
-            Err(_) => (0, 255),
-        };
-        assert_eq!(rt; found, wanted);
+fn limits(rt: HostRuntime) -> Result<(), AllocError> {
+    for (head, line, count, tail, fault) in [
+        (MAIN, "print 1\n", 64, "end\n", (0, 0)),
+        (MAIN, "print 1\n", 65, "end\n", (66, 3)),
+        (MAIN, "print 1\n", 64, "print 5x\nend\n", (66, 3)),
+        (MAIN, "print 1\n", 64, "print\nend\n", (66, 1)),
+        (EIGHT, "ivar i\n", 56, "end\n", (0, 0)),
+        (EIGHT, "ivar i\n", 57, "end\n", (58, 3)),
+        (EIGHT, "ivar i\n", 55, "event e q 5\nend\n", (57, 3)),
+        (MAIN, EVENT, 32, "end\n", (0, 0)),
+        (MAIN, EVENT, 33, "end\n", (34, 3)),
+        ("", EMPTY, 4096, "", (0, 0)),
+        ("", EMPTY, 4097, "", (8193, 3)),
+        ("", EMPTY, 4096, "proc a v\n", (8193, 1)),
+        ("", "#", 1_048_576, "", (0, 0)),
+        ("", "#", 1_048_577, "", (0, 2)),
+        ("foo\n", "#", 1_048_576, "", (0, 2)),
+    ] {
+        let text = repeated(rt.alloc(), head, line, count, tail)?;
+        assert_eq!(rt; fault_of(rt.alloc(), &text)?, fault, "{count} times {line}");
     }
+    Ok(())
 }

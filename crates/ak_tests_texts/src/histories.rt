@@ -1,15 +1,103 @@
-//! Tests of the texts of histories that are read.
+//! Texts of histories, and the lines that are none of a history.
 
-use crate::reading::read_history;
-use crate::refusal::HistoryRefused;
-use crate::text::write_history;
+use ak_base::list::{Items, NoMemory};
 use ak_base::memory::MemSink;
+use ak_base::number::{HelperNo, ThreadNo, WorkNo};
+use ak_base::sink::WriteFailed;
+use ak_history::event::Event;
+use ak_history::reading::read_history;
+use ak_history::refusal::HistoryRefused;
+use ak_history::text::write_history;
+use ak_labor::work::{Outcome, Work, WorkKind};
 use std::alloc::Global;
+
+const WRITTEN: &str = "idle 2
+helper 0 granted 0
+helper 1 refused
+submit 0 general square 3
+submit 1 helper 0 square 4
+helperend 0
+start 0 1
+finish 0 1 good 16
+drain 1 0
+idle 1
+close
+";
+
+#[test]
+fn each_event_is_written(rt: HostRuntime) -> Result<(), NoMemory> {
+    let (zero, one) = (WorkNo::new(0), WorkNo::new(1));
+    let thread = ThreadNo::new(0);
+    let helper = HelperNo::new(0);
+    let square = WorkKind::Square;
+    let events = vec![in rt.alloc();
+        Event::Drain {
+            ids: Items::make(rt.alloc())
+        },
+        Event::Drain {
+            ids: Items::make(rt.alloc())
+        },
+        Event::HelperNew {
+            no: helper,
+            answer: Some(thread)
+        },
+        Event::HelperNew {
+            no: HelperNo::new(1),
+            answer: None
+        },
+        Event::Submit {
+            id: zero,
+            work: Work {
+                kind: square,
+                num: 3
+            },
+            helper: None
+        },
+        Event::Submit {
+            id: one,
+            work: Work {
+                kind: square,
+                num: 4
+            },
+            helper: Some(helper)
+        },
+        Event::HelperEnd { no: helper },
+        Event::Start { thread, id: one },
+        Event::Finish {
+            thread,
+            id: one,
+            outcome: Outcome::Good(16)
+        },
+        Event::Drain {
+            ids: Items::from_vec(vec![in rt.alloc(); one, zero]?)
+        },
+        Event::Drain {
+            ids: Items::make(rt.alloc())
+        },
+        Event::Close,
+    ]?;
+    let mut sink = MemSink::make(rt.alloc(), 300, 7, Vec::new(rt.alloc()))?;
+    assert_eq!(rt; write_history(&Items::from_vec(events), &mut sink), Ok(()));
+    assert_eq!(rt; sink.taken(), WRITTEN.as_bytes());
+    Ok(())
+}
+
+#[test]
+fn write_that_fails_leaves_a_beginning(rt: HostRuntime) -> Result<(), NoMemory> {
+    let history = Items::from_vec(vec![in rt.alloc(); Event::Close]?);
+    for k in 0..6 {
+        let mut sink = MemSink::make(rt.alloc(), 100, 1, vec![in rt.alloc(); k]?)?;
+        assert_eq!(rt; write_history(&history, &mut sink), Err(WriteFailed));
+        assert_eq!(rt; sink.taken(), &b"close\n"[..k as usize], "write {k} fails");
+    }
+    Ok(())
+}
 
 /// More bytes than any text or output of a test here.
 const ROOM: usize = 1000;
 
-/// What a text is read as: the plain text of its history with the line of each event, or its bad line.
+/// What a text is read as: the plain text of its history with the line of each event, or its bad
+/// line.
 #[derive(Clone, Copy)]
 enum Wanted<'a> {
     History(&'a str, &'a [u32]),
@@ -40,11 +128,28 @@ fn is_read_as(
     }
 }
 
-const WORKED: &str =
-    "idle 1\nhelper 0 granted 0\nhelper 1 refused\nsubmit 0 general square 3\nsubmit 1 helper 0 square 4\nhelperend 0\nidle 2\nstart 0 1\nfinish 0 1 good 16\nstart 0 0\nfinish 0 0 good 9\ndrain 1 0\nidle 1\nclose\n";
+const WORKED: &str = "idle 1
+helper 0 granted 0
+helper 1 refused
+submit 0 general square 3
+submit 1 helper 0 square 4
+helperend 0
+idle 2
+start 0 1
+finish 0 1 good 16
+start 0 0
+finish 0 0 good 9
+drain 1 0
+idle 1
+close
+";
 
-const EACH: &str =
-    "submit 2 general fail 9223372036854775807\nsubmit 3 helper 4294967295 mix -4\nfinish 3 2 bad -9223372036854775808\ndrain 4294967295\nhelper 1 granted 31\n";
+const EACH: &str = "submit 2 general fail 9223372036854775807
+submit 3 helper 4294967295 mix -4
+finish 3 2 bad -9223372036854775808
+drain 4294967295
+helper 1 granted 31
+";
 
 #[test]
 fn histories_are_read(rt: HostRuntime) -> Result<(), HistoryRefused> {
