@@ -1,5 +1,5 @@
 -- A world that is whole stays so.
-use Rattle.std.proofs.Common.{◌≡◌, ℕ, [], false, length, refl, sym, subst}
+use Rattle.std.proofs.Common.{◌≡◌, ℕ, [], length, refl, sym, subst}
 use Rattle.std.specs.Prelude.{Option, None, IfSome}
 use Rattle.std.specs.Option.{option_map}
 use Rattle.ak_cells.specs.Names.{name_in}
@@ -16,8 +16,7 @@ use Rattle.ak_machine.specs.Mapped.{job_mapped}
 use Rattle.ak_exec.specs.Seen.{Seen, doing, without_pick}
 use Rattle.ak_exec.specs.Fits.{JobFits, Fits}
 use Rattle.ak_holders.specs.Held.{HeldBy, HeldBeside}
-use Rattle.ak_holders.proofs.Carry.{beside_noted, beside_cycle, pick_beside}
-use Rattle.ak_holders.proofs.Runs.{nothing_held}
+use Rattle.ak_holders.proofs.Carry.{none_held, beside_noted, beside_cycle, pick_beside}
 use Rattle.ak_exec.specs.Worlds.{IsWhole, world_of}
 use Rattle.ak_exec.proofs.Fitting.{Grows, cycle_grows, noted_grows}
 use Rattle.ak_exec.proofs.Picks.{picked_grows, left_fits, pick_fits}
@@ -62,7 +61,7 @@ emptied_whole program config picked ran s s' e h = record {
   limit = h.limit;
   fits = subst (Fits program.procs) (sym e) (record { handlers = tt; normal = tt; low = tt });
   picked = tt;
-  held = subst (HeldBy program.procs []) (sym e) (record { names = λ i. false; held = nothing_held program.procs config.limit });
+  held = subst (HeldBy program.procs []) (sym e) (none_held program.procs config.limit);
 }
 
 -- none was picked

@@ -32,8 +32,8 @@ abbrev pub world_of : NumProgram → Config → Seen → Option (Job Task) → �
 world_of program config s picked ran =
     record { program = program; config = config; plain = s.plain; picked = option_map (job_mapped (name_in s.names)) picked; ran = ran }
 
--- all that a world holds fits its program, whose statements are built, and a cycle has room for a job; and each name has one
--- holder at the most
+-- all that a world holds fits its program, whose statements are built; a cycle has room for a job; and each name has at most
+-- one holder
 pub record IsWhole (w : Worldly) : Type 0 where
   pub built : AreBuilt w.program.procs
   pub limit : 1 ≤ w.config.limit

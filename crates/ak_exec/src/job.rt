@@ -58,7 +58,7 @@ fn run_line(
     }
 }
 
-/// A number is returned: an empty result is filled.
+/// A number is returned: the result is filled, where it is empty.
 fn return_number(parts: &mut Parts, r: IvarNo, num: Num) -> Result<(), NoMemory>
     requires { name_in parts.old.names r < length parts.old.plain.cells.ivars }
     ensures { OnOk result (parts.new.plain ≡ returned_by (Ret.To (name_in parts.old.names r)) (Value.Num num) parts.old.plain) }
@@ -68,7 +68,7 @@ fn return_number(parts: &mut Parts, r: IvarNo, num: Num) -> Result<(), NoMemory>
     Ok(())
 }
 
-/// A deferred is returned: it is connected to the result.
+/// A deferred is returned: the result, which is empty, is connected with it.
 fn return_deferred(parts: &mut Parts, r: IvarNo, i: IvarNo) -> Result<(), NoMemory>
     requires result { name_in parts.old.names r < length parts.old.plain.cells.ivars }
     requires deferred { name_in parts.old.names i < length parts.old.plain.cells.ivars }
@@ -121,7 +121,8 @@ fn ended(
     requires ret { RetFits (length parts.old.plain.cells.ivars) (ret_mapped (name_in parts.old.names) ret) }
     requires ends { step ≢ Step.Goes }
     requires returned { (value : Value) → step ≡ Step.Returns value → IsReturned (length parts.old.plain.cells.ivars) (value_mapped (name_in parts.old.names) value) }
-    requires empty { (value : Value) → step ≡ Step.Returns value → IsEmptyResult (ret_mapped (name_in parts.old.names) ret) parts.old.plain }
+    requires empty { (value : Value) → step ≡ Step.Returns value
+        → IsEmptyResult (ret_mapped (name_in parts.old.names) ret) parts.old.plain }
     requires fits { Fits program.now.procs parts.old.plain }
     ensures fits { OnOk result (Fits program.now.procs parts.new.plain) }
     ensures told { IfOk result (λ flow. Ends flow parts.new.plain.trace) }
@@ -153,8 +154,11 @@ fn advance(
 ) -> Result<Option<Flow>, NoMemory>
     requires way { IsUnderWay program.now.procs parts.old.plain (named parts.old vals.old) ctx.now (ret_mapped (name_in parts.old.names) ret.now) (drop k lines.now) }
     requires some { k < length lines.now }
-    requires returns { LinesReturn ctx.now (ret_mapped (name_in parts.old.names) ret.now) (drop k lines.now) parts.old.plain (named parts.old vals.old) }
-    ensures returns { IfOk result (λ next. IfNone next (LinesReturn ctx.now (ret_mapped (name_in parts.new.names) ret.now) (drop (k + 1) lines.now) parts.new.plain (named parts.new vals.new))) }
+    requires returns { LinesReturn ctx.now (ret_mapped (name_in parts.old.names) ret.now)
+        (drop k lines.now) parts.old.plain (named parts.old vals.old) }
+    ensures returns { IfOk result (λ next. IfNone next
+        (LinesReturn ctx.now (ret_mapped (name_in parts.new.names) ret.now)
+        (drop (k + 1) lines.now) parts.new.plain (named parts.new vals.new))) }
     ensures way { IfOk result (λ next. IfNone next (IsUnderWay program.now.procs parts.new.plain (named parts.new vals.new) ctx.now (ret_mapped (name_in parts.new.names) ret.now) (drop (k + 1) lines.now))) }
     ensures fits { OnOk result (Fits program.now.procs parts.new.plain) }
     ensures told { IfOk result (λ next. IfSome next (λ flow. Ends flow parts.new.plain.trace)) }
@@ -166,7 +170,7 @@ fn advance(
     }
 }
 
-/// The lines of a procedure, to its end.
+/// The lines of a procedure, to its end. Where it returns to a deferred, that deferred is empty.
 fn run_lines(
     alloc: Global,
     program: &Program,
@@ -177,7 +181,8 @@ fn run_lines(
     vals: &mut Vals,
 ) -> Result<Flow, NoMemory>
     requires way { IsUnderWay program.now.procs parts.old.plain (named parts.old vals.old) ctx.now (ret_mapped (name_in parts.old.names) ret.now) lines.now }
-    requires returns { LinesReturn ctx.now (ret_mapped (name_in parts.old.names) ret.now) lines.now parts.old.plain (named parts.old vals.old) }
+    requires returns { LinesReturn ctx.now (ret_mapped (name_in parts.old.names) ret.now)
+        lines.now parts.old.plain (named parts.old vals.old) }
     ensures fits { OnOk result (Fits program.now.procs parts.new.plain) }
     ensures told { IfOk result (λ flow. Ends flow parts.new.plain.trace) }
     ensures runs { IfOk result (λ flow. lines_run ctx.now (ret_mapped (name_in parts.old.names) ret.now) lines.now parts.old.plain (named parts.old vals.old) ≡ Over (after_is flow parts.new.plain)) }
@@ -230,7 +235,8 @@ fn run_call(
     requires built { AreBuilt program.now.procs }
     requires root { ctx.mon ≡ 0 }
     requires call { CallFits program.now.procs (length parts.old.plain.cells.ivars) proc (named parts.old vals) }
-    requires returns { LinesReturn ctx (ret_mapped (name_in parts.old.names) ret) (lines_of program.now.procs proc) parts.old.plain (named parts.old vals) }
+    requires returns { LinesReturn ctx (ret_mapped (name_in parts.old.names) ret)
+        (lines_of program.now.procs proc) parts.old.plain (named parts.old vals) }
     requires ret { RetFits (length parts.old.plain.cells.ivars) (ret_mapped (name_in parts.old.names) ret) }
     requires fits { Fits program.now.procs parts.old.plain }
     ensures fits { OnOk result (Fits program.now.procs parts.new.plain) }
@@ -238,6 +244,7 @@ fn run_call(
     ensures runs { IfOk result (λ flow. lines_run ctx (ret_mapped (name_in parts.old.names) ret) (lines_of program.now.procs proc) parts.old.plain (named parts.old vals) ≡ Over (after_is flow parts.new.plain)) }
 {
     let mut vals = vals;
+    // For the proof alone: its contract says that the program is sound.
     let _main = program.main();
     run_lines(
         alloc,
@@ -261,7 +268,8 @@ pub fn run_task(
     requires built { AreBuilt program.now.procs }
     requires root { ctx.mon ≡ 0 }
     requires frame { FrameFits program.now.procs (length parts.old.plain.cells.ivars) (frame_mapped (name_in parts.old.names) task.frame) }
-    requires returns { FrameReturns program.now.procs ctx (frame_mapped (name_in parts.old.names) task.frame) (value_or_zero task.value) parts.old.plain }
+    requires returns { FrameReturns program.now.procs ctx
+        (frame_mapped (name_in parts.old.names) task.frame) (value_or_zero task.value) parts.old.plain }
     requires fits { Fits program.now.procs parts.old.plain }
     ensures fits { OnOk result (Fits program.now.procs parts.new.plain) }
     ensures told { IfOk result (λ flow. Ends flow parts.new.plain.trace) }

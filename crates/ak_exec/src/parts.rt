@@ -143,7 +143,7 @@ impl Parts {
         Ok(())
     }
 
-    /// An empty result takes what another ivar has, or its place.
+    /// An empty result takes what another ivar has, or its place. By one holder no run meets a full one.
     pub fn connect(&mut self, r: IvarNo, i: IvarNo) -> Result<(), NoMemory>
         requires result_drawn { r < length self.old.plain.cells.ivars }
         requires right_drawn { i < length self.old.plain.cells.ivars }

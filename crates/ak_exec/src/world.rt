@@ -123,6 +123,7 @@ pub fn run_frame(world: &mut World) -> Result<Flow, NoMemory>
     ensures told { IfOk result (λ flow. Ends flow world.new.plain.trace) }
     ensures world { OnOk result (world.new ≡ record world.old { plain = world.new.plain; picked = None }) }
 {
+    // For the proof alone: its contract says that the program is sound.
     let _main = world.program.main();
     let Some(job) = world.picked.take() else {
         unreachable!()
