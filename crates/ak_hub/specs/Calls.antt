@@ -52,7 +52,8 @@ starts thread Closed = []
 
 -- in one hold, which began with this log, the thread was given what the pool gives by it
 abbrev pub Took : HubState → PassView Event → List (ℕ × Event) → ℕ → Taken → PassView Event → Type 0
-Took h p was thread taken p' = Gave h p was (starts thread taken) p' × Takes h.threads (events was) thread taken (seen_by p')
+Took h p was thread taken q =
+    Gave h p was (starts thread taken) q × Takes h.threads (events was) thread taken (seen_by q)
 
 -- in one hold the thread was given what the pool gives by the history that the hold began with
 abbrev pub IsAnswered : HubState → PassView Event → ℕ → Taken → PassView Event → Type 0

@@ -4,6 +4,7 @@ ghost use Rattle.std.specs.Prelude.{◌≡◌, ◌<◌, suc, false, IfOk};
 ghost use Rattle.ak_history.specs.Events.{is_running};
 ghost use Rattle.ak_hub.specs.Hubs.{IsPassOf, IsGivenBack, seen_by};
 
+use crate::works::{fetch, hand_in};
 use ak_base::buffer::Buffer;
 use ak_base::memory::MemSink;
 use ak_base::number::{ThreadNo, WorkNo};
@@ -66,10 +67,10 @@ fn row<R: Wait>(rt: &R, alloc: Global) -> Result<Answers, AllocError> {
         num: 3,
     };
     let mut fetched = Arrivals::make(alloc);
-    let handed = hub.submit(rt, &mut first, work, None)?;
+    let handed = hand_in(rt, &hub, &mut first, work)?;
     let carried = ask_once(rt, &hub, &mut second, thread);
     let further = ask_once(rt, &hub, &mut second, thread);
-    hub.drain(rt, &mut first, &mut fetched)?;
+    fetch(rt, &hub, &mut first, &mut fetched)?;
     hub.close(rt, &mut first);
     let late = ask_once(rt, &hub, &mut second, thread);
     let passes = vec![in alloc; first]?;

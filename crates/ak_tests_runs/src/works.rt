@@ -1,9 +1,10 @@
 //! Works that go through a hub: a scheduler hands them in and fetches them, and its threads carry them by hands.
 
-ghost use Rattle.std.specs.Prelude.{◌≡◌, ◌≤◌, ◌+◌, ◌<◌, ◌-◌, ◌^◌, [], length, count_by, IfOk};
+ghost use Rattle.std.specs.Prelude.{◌≡◌, ◌≤◌, ◌+◌, ◌<◌, ◌-◌, ◌^◌, [], length, count_by, OnOk};
 ghost use Rattle.std.specs.Thread.{IsSync};
 ghost use Rattle.ak_history.specs.Events.{is_submit};
 ghost use Rattle.ak_pool.specs.Pools.{IsOpen};
+ghost use Rattle.ak_hub.specs.Calls.{SomeOutstanding};
 ghost use Rattle.ak_hub.specs.Hubs.{IsPassOf, IsGivenBack, IsFreshZero, seen_by};
 ghost use Rattle.ak_crew.specs.Crews.{AreUnused};
 ghost use Rattle.ak_crew.specs.Workers.{AreAtRest};
@@ -29,28 +30,63 @@ pub struct Served {
     pub hands: usize,
 }
 
-// Hands in one work more. Where it is to wait, it waits until a work is finished, and fetches the finished works.
-fn hand_in_one<R: Wait>(
+/// Hands in one work more, for any thread, which is then outstanding.
+pub fn hand_in<R: Wait>(
     rt: &R,
     hub: &Hub,
     pass: &mut HubPass,
     work: Work,
-    waits: bool,
-    fetched: &mut Arrivals,
-) -> Result<(), NoMemory>
+) -> Result<WorkNo, NoMemory>
     requires pass { IsPassOf hub.now 0 pass.old }
     requires open { IsOpen (seen_by pass.old) }
     requires few { count_by is_submit (seen_by pass.old) < 2 ^ 32 - 1 }
     ensures pass { IsGivenBack hub.now 0 pass.old pass.new }
     ensures open { IsOpen (seen_by pass.new) }
-    ensures few { count_by is_submit (seen_by pass.new) ≤ count_by is_submit (seen_by pass.old) + 1 }
+    ensures few { count_by is_submit (seen_by pass.new)
+        ≤ count_by is_submit (seen_by pass.old) + 1 }
+    ensures some { OnOk result (SomeOutstanding (seen_by pass.new)) }
 {
-    hub.submit(rt, pass, work, None)?;
-    if waits {
-        hub.wait_owed(rt, pass);
-        hub.drain(rt, pass, fetched)?;
+    match hub.submit(rt, pass, work, None) {
+        Ok(id) => Ok(id),
+        Err(_) => Err(AllocError),
     }
-    Ok(())
+}
+
+/// Fetches the finished works.
+pub fn fetch<R: Wait>(
+    rt: &R,
+    hub: &Hub,
+    pass: &mut HubPass,
+    fetched: &mut Arrivals,
+) -> Result<(), NoMemory>
+    requires pass { IsPassOf hub.now 0 pass.old }
+    requires open { IsOpen (seen_by pass.old) }
+    ensures pass { IsGivenBack hub.now 0 pass.old pass.new }
+    ensures open { IsOpen (seen_by pass.new) }
+    ensures same { count_by is_submit (seen_by pass.new) ≡ count_by is_submit (seen_by pass.old) }
+{
+    match hub.drain(rt, pass, fetched) {
+        Ok(()) => Ok(()),
+        Err(_) => Err(AllocError),
+    }
+}
+
+// Waits until a work is finished, and fetches the finished works.
+fn fetch_some<R: Wait>(
+    rt: &R,
+    hub: &Hub,
+    pass: &mut HubPass,
+    fetched: &mut Arrivals,
+) -> Result<(), NoMemory>
+    requires pass { IsPassOf hub.now 0 pass.old }
+    requires open { IsOpen (seen_by pass.old) }
+    requires some { SomeOutstanding (seen_by pass.old) }
+    ensures pass { IsGivenBack hub.now 0 pass.old pass.new }
+    ensures open { IsOpen (seen_by pass.new) }
+    ensures same { count_by is_submit (seen_by pass.new) ≡ count_by is_submit (seen_by pass.old) }
+{
+    hub.wait_owed(rt, pass);
+    fetch(rt, hub, pass, fetched)
 }
 
 // Hands in each work, waits behind every other one, and fetches all.
@@ -68,16 +104,19 @@ fn hand_in_all<R: Wait>(
 {
     let mut arrived = Vec::with_capacity(alloc, works.len())?;
     for place in 0..works.len() {
-        let mut fetched = Arrivals::make(alloc);
-        hand_in_one(rt, hub, pass, works[place], place % 2 == 1, &mut fetched)?;
-        arrived.extend_from_slice(fetched.as_slice())?;
+        hand_in(rt, hub, pass, works[place])?;
+        if place % 2 == 1 {
+            let mut fetched = Arrivals::make(alloc);
+            fetch_some(rt, hub, pass, &mut fetched)?;
+            arrived.extend_from_slice(fetched.as_slice())?;
+        }
     }
     for _ in rt.forever() {
         if arrived.len() >= works.len() {
             return Ok(arrived);
         }
         let mut fetched = Arrivals::make(alloc);
-        hub.drain(rt, pass, &mut fetched)?;
+        fetch(rt, hub, pass, &mut fetched)?;
         arrived.extend_from_slice(fetched.as_slice())?;
     }
     unreachable!()
@@ -119,7 +158,8 @@ pub fn serve<L: Labor + Drop, R: Threads + Wait + Sync>(
         rt,
         move || -> (Vec<L>, Vec<HubPass>)
             requires { IsSync R.row × (length passes.items ≤ shared.now.threads)
-                × (shared.now.threads ≤ 32) × AreAtRest L.carried shared.now 0 hands.items passes.items }
+                × (shared.now.threads ≤ 32)
+                × AreAtRest L.carried shared.now 0 hands.items passes.items }
             ensures { AreAtRest L.carried shared.entry.now 0 result.0.items result.1.items }
         { work_all(rt, shared, hands, passes) },
         move || -> (Result<Vec<(WorkNo, Outcome)>, NoMemory>, HubPass)
