@@ -2,6 +2,7 @@
 use Rattle.std.specs.Prelude.{ℕ, ◌+◌, List, [], ◌∷◌, ◌++◌, ◌≡◌, length, Ok, Err}
 use Rattle.std.specs.declared.result.Result.{Result}
 use Rattle.ak_labor.specs.declared.ask.Ask.{Ask}
+use Rattle.ak_labor.specs.declared.ask.Ask.TheVariants as ask
 use Rattle.ak_labor.specs.declared.port.PortError.{PortError}
 use Rattle.ak_labor.specs.declared.port.PortError.TheVariants.{Fault, NoMemory}
 use Rattle.ak_labor.specs.Calls.{Reply, IsOpen}
@@ -41,6 +42,10 @@ abbrev pub IsNoMemory : {T F : Type 0} → Result T (PortError F) → Type 0
 IsNoMemory (Ok v) = ⊥
 IsNoMemory (Err (Fault f)) = ⊥
 IsNoMemory (Err NoMemory) = Unit {0}
+
+-- the last call was the close
+abbrev pub EndsClosed : List Ask → Type 0
+EndsClosed asked = (before : List Ask) × (asked ≡ before ++ ask.Close ∷ [])
 
 -- the trace ends idle
 abbrev pub EndsIdle : List Entry → Type 0

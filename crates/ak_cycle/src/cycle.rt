@@ -1,6 +1,6 @@
 //! Whole runs.
 
-ghost use Rattle.std.specs.Prelude.{◌≡◌, ◌≤◌, ◌<◌, [], true, IfOk};
+ghost use Rattle.std.specs.Prelude.{◌≡◌, ◌≤◌, ◌<◌, [], true, IfOk, OnOk};
 ghost use Rattle.std.specs.List.{filter_map};
 ghost use Rattle.ak_labor.specs.declared.ask.Ask.TheVariants as ask;
 ghost use Rattle.ak_labor.specs.Calls.{IsAsked, IsOpen, IsFault, Pairs};
@@ -9,7 +9,7 @@ ghost use Rattle.ak_machine.specs.Run.{run_of};
 ghost use Rattle.ak_machine.specs.Status.{status_of};
 ghost use Rattle.ak_program.specs.Programs.{NumProgram};
 ghost use Rattle.ak_exec.specs.Built.{AreBuilt};
-ghost use Rattle.ak_cycle.specs.Runs.{HasEndedWith, WantsLast, WantsNext, IsNoMemory, EndsIdle};
+ghost use Rattle.ak_cycle.specs.Runs.{HasEndedWith, WantsLast, WantsNext, IsNoMemory, EndsIdle, EndsClosed};
 ghost use Rattle.ak_cycle.specs.Turns.{IsAt, IsFinished, turns_left};
 
 use crate::turn::advance;
@@ -26,7 +26,7 @@ use std::alloc::Global;
 /// at least 1. Own; after Async's scheduler in outline.
 ///
 /// On `Ok` the trace is the machine's for the port's replies, the machine has ended, and what the port was asked is
-/// what the machine asks, with its waits. Where the trace ends idle, a reply has brought each work that was handed in.
+/// what the machine asks, with its waits; the last call is the close. Where the trace ends idle, a reply has brought each work that was handed in.
 ///
 /// # Errors
 ///
@@ -49,6 +49,7 @@ pub fn run<P: Port>(
     ensures ended { IfOk result (λ trace. HasEndedWith (run_of program.procs program.main config (P.replies port.new)) trace (P.asked port.new) (P.waits port.new)) }
     ensures finished { IfOk result (λ trace. IsFinished (status_of trace)) }
     ensures idle { IfOk result (λ trace. EndsIdle trace → outstanding (P.asked port.new) (P.replies port.new) ≡ []) }
+    ensures closed { OnOk result (EndsClosed (P.asked port.new)) }
     ensures threads { P.threads port.new ≡ P.threads port.old }
     ensures fault { IsFault result → WantsLast (run_of program.procs program.main config (P.replies port.new)) (P.asked port.new) (P.replies port.new) (P.waits port.new) }
     ensures memory { IsNoMemory result → WantsNext (run_of program.procs program.main config (P.replies port.new)) (P.asked port.new) (P.replies port.new) (P.waits port.new) }

@@ -11,7 +11,7 @@ use Rattle.ak_valid.specs.Numbered.{numbered, main_of}
 use Rattle.ak_machine.specs.declared.config.Config.{Config}
 use Rattle.ak_machine.specs.Run.{run_of}
 use Rattle.ak_cycle.specs.Runs.{HasEndedWith}
-use Rattle.ak_crew.specs.Once.{StartOnce}
+use Rattle.ak_history_laws.specs.Once.{StartOnce}
 use Rattle.ak_crew.specs.Crews.{HasRun}
 use Rattle.ak_top.specs.Headline.{IsScript, RunsTo}
 

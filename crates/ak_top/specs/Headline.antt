@@ -10,7 +10,7 @@ use Rattle.ak_valid.specs.Valid.{Valid}
 use Rattle.ak_valid.specs.Numbered.{numbered, main_of}
 use Rattle.ak_machine.specs.declared.config.Config.{Config}
 use Rattle.ak_machine.specs.Run.{Run, HasEnded, run_of}
-use Rattle.ak_crew.specs.Once.{StartOnce}
+use Rattle.ak_history_laws.specs.Once.{StartOnce}
 use Rattle.ak_top.specs.Reading.{Had}
 
 -- the bytes are a valid script

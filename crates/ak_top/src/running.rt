@@ -1,8 +1,8 @@
 //! A script from its source to its trace.
 
 ghost use Rattle.std.specs.Prelude.{◌≡◌, ◌≤◌, ℕ, List, length, IfOk, IfErr, OnOk, MatchOption};
-ghost use Rattle.std.specs.List.{AllByRecursion};
 ghost use Rattle.ak_script.specs.declared.script.Proc.{Proc};
+ghost use Rattle.ak_crew.specs.Crews.{AreUnused};
 ghost use Rattle.ak_cycle.specs.Turns.{IsFinished};
 ghost use Rattle.ak_exec.specs.Built.{AreBuilt, FirstUnbuilt, statements};
 ghost use Rattle.ak_machine.specs.declared.config.Config.{Config as Settings};
@@ -51,7 +51,7 @@ pub fn run_source<S: Source, L: Labor + Drop, R: Threads + Wait + Sync>(
 ) -> (Result<Ran, Stop>, Vec<L>)
     requires limit { 1 ≤ config.limit }
     requires threads { (1 ≤ config.threads) × (config.threads ≤ 32) }
-    requires hands { (config.threads ≤ length hands.items) × AllByRecursion (λ h. L.carried h ≡ 0) hands.items }
+    requires hands { AreUnused L.carried config.threads hands.items }
     ensures ran { IfOk result.0 (λ ran. IsRun config (S.left source.old) ran.trace ran.history) }
     ensures finished { IfOk result.0 (λ ran. IsFinished (status_of ran.trace)) }
     ensures carried { IfOk result.0 (λ ran. HaveCarried L.carried hands.items result.1.items ran.history) }
@@ -104,7 +104,7 @@ fn run_bytes<L: Labor + Drop, R: Threads + Wait + Sync>(
 ) -> (Result<Ran, Stop>, Vec<L>)
     requires limit { 1 ≤ config.limit }
     requires threads { (1 ≤ config.threads) × (config.threads ≤ 32) }
-    requires hands { (config.threads ≤ length hands.items) × AllByRecursion (λ h. L.carried h ≡ 0) hands.items }
+    requires hands { AreUnused L.carried config.threads hands.items }
     ensures ran { IfOk result.0 (λ ran. RunsTo config bytes.now ran.trace ran.history) }
     ensures finished { IfOk result.0 (λ ran. IsFinished (status_of ran.trace)) }
     ensures carried { IfOk result.0 (λ ran. HaveCarried L.carried hands.items result.1.items ran.history) }
@@ -130,7 +130,7 @@ fn run_program<L: Labor + Drop, R: Threads + Wait + Sync>(
 ) -> (Result<Ran, Stop>, Vec<L>)
     requires limit { 1 ≤ config.limit }
     requires threads { (1 ≤ config.threads) × (config.threads ≤ 32) }
-    requires hands { (config.threads ≤ length hands.items) × AllByRecursion (λ h. L.carried h ≡ 0) hands.items }
+    requires hands { AreUnused L.carried config.threads hands.items }
     requires program { IsProgramOf bytes.now program }
     requires built { AreBuilt program.procs }
     ensures ran { IfOk result.0 (λ ran. RunsTo config bytes.now ran.trace ran.history) }

@@ -3,6 +3,7 @@
 ghost use Rattle.std.specs.Prelude.{◌≡◌, ◌≢◌, ◌≤◌, ◌↔◌, ◌⊎◌, ℕ, [], length, false, OnOk, OnErr};
 ghost use Rattle.std.specs.List.{AllByRecursion};
 ghost use Rattle.ak_base.specs.Streams.{Rose, grown, TookBeginning};
+ghost use Rattle.ak_crew.specs.Crews.{AreUnused};
 ghost use Rattle.ak_cycle.specs.Turns.{IsFinished};
 ghost use Rattle.ak_machine.specs.Status.{status_of};
 ghost use Rattle.ak_words.specs.declared.command.Command.{Command as Order};
@@ -94,7 +95,7 @@ fn run_command<S: Source, K: Sink, L: Labor + Drop, R: Threads + Wait + Sync>(
 ) -> (Report, Vec<L>)
     requires limit { 1 ≤ config.limit }
     requires threads { (1 ≤ config.threads) × (config.threads ≤ 32) }
-    requires hands { (config.threads ≤ length hands.items) × AllByRecursion (λ h. L.carried h ≡ 0) hands.items }
+    requires hands { AreUnused L.carried config.threads hands.items }
     ensures reports { ReportsRun config (S.left source.old) result.0 }
     ensures took { Took result.0.status (K.taken sink.old) (K.taken sink.new) (output result.0.trace result.0.history) }
     ensures hands { AreAfterRun L.carried hands.items result.1.items result.0.history result.0.status }
@@ -147,6 +148,3 @@ fn write_output<K: Sink>(trace: &Trace, history: &History, sink: &mut K) -> Resu
     buffer.flush(sink)?;
     Ok(())
 }
-
-#[cfg(test)]
-mod tests;

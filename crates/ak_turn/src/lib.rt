@@ -5,6 +5,4 @@ pub mod guarded;
 pub mod lock;
 mod rule;
 mod steps;
-#[cfg(test)]
-mod tests;
 mod view;

@@ -41,3 +41,6 @@ returns-in_err-close-clause-memory g c short =
 pub returns-clause-idle : goal.returns-clause-idle
 returns-clause-idle g c = λ ends.
     none_out_closed (g.P.Port.asked c.loop-on.port) (g.P.Port.asked c.close.new.self) (g.P.Port.replies c.close.new.self) c.loop-on.invariant.at.no_work c.in_ok-close.ensures.asked.0
+
+pub returns-clause-closed : goal.returns-clause-closed
+returns-clause-closed g c = (g.P.Port.asked c.loop-on.port, c.in_ok-close.ensures.asked.0)

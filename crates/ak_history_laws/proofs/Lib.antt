@@ -1,0 +1,10 @@
+pub mod Parts
+pub mod Legals
+pub mod Workers
+pub mod Threads
+pub mod Replies
+pub mod Arrivals
+pub mod Helpers
+pub mod Owed
+pub mod Once
+pub mod Out

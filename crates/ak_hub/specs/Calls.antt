@@ -1,0 +1,64 @@
+-- What each call of a hub leaves, by the pass before it and after it. Own; after Async's thread pool.
+use Rattle.std.specs.Prelude.{ℕ, ◌≡◌, ◌≢◌, ◌⊎◌, Bool, List, [], ◌∷◌, count_by, is_some}
+use Rattle.ak_labor.specs.declared.work.Outcome.{Outcome}
+use Rattle.ak_labor.specs.Waits.{outstanding}
+use Rattle.ak_history.specs.declared.event.Event.{Event}
+use Rattle.ak_history.specs.declared.event.Event.TheVariants as event
+use Rattle.ak_history.specs.Events.{is_helper_new, helper_answer, owed}
+use Rattle.ak_history.specs.Scheduler.{asks, replies}
+use Rattle.ak_pool.specs.declared.pool.Taken.{Taken}
+use Rattle.ak_pool.specs.declared.pool.Taken.TheVariants.{Got, NotYet, Closed}
+use Rattle.ak_pool.specs.Pools.{owed_pairs}
+use Rattle.ak_pool.specs.Takes.{Takes}
+use Rattle.ak_turn.specs.Entries.{events}
+use Rattle.ak_turn.specs.Seen.{PassView}
+use Rattle.ak_hub.specs.Hubs.{HubState, Gave, seen_by}
+
+-- some work is outstanding: it was handed in, and no drain has brought it
+abbrev pub SomeOutstanding : List Event → Type 0
+SomeOutstanding history = outstanding (asks history) (replies history) ≢ []
+
+-- in one hold the pass gave this event
+abbrev pub Gives : HubState → PassView Event → Event → PassView Event → Type 0
+Gives h p e q = (was : List (ℕ × Event)) × Gave h p was (e ∷ []) q
+
+-- in one hold the pass gave nothing
+abbrev pub GivesNothing : HubState → PassView Event → PassView Event → Type 0
+GivesNothing h p q = (was : List (ℕ × Event)) × Gave h p was [] q
+
+-- in one hold the pass fetched the finished works that were not fetched
+abbrev pub Fetches : HubState → PassView Event → List (ℕ × Outcome) → PassView Event → Type 0
+Fetches h p into q =
+    (was : List (ℕ × Event))
+    × Gave h p was (event.Drain (owed (events was)) ∷ []) q
+    × (into ≡ owed_pairs (events was))
+
+-- in one hold the pass asked for a helper, and was answered by the history that the hold began with
+abbrev pub AsksHelper : HubState → PassView Event → Bool → PassView Event → Type 0
+AsksHelper h p granted q =
+    (was : List (ℕ × Event))
+    × Gave h p was (event.HelperNew (count_by is_helper_new (seen_by p)) (helper_answer h.threads (events was)) ∷ []) q
+    × (granted ≡ is_some (helper_answer h.threads (events was)))
+
+-- in one hold the pass gave nothing and saw a finished work that was not fetched
+abbrev pub SeesOwed : HubState → PassView Event → PassView Event → Type 0
+SeesOwed h p q = (was : List (ℕ × Event)) × Gave h p was [] q × (owed (events was) ≢ [])
+
+-- the event of an answer to a thread that asks for a work
+abbrev pub starts : ℕ → Taken → List Event
+starts thread (Got id work) = event.Start thread id ∷ []
+starts thread NotYet = []
+starts thread Closed = []
+
+-- in one hold, which began with this log, the thread was given what the pool gives by it
+abbrev pub Took : HubState → PassView Event → List (ℕ × Event) → ℕ → Taken → PassView Event → Type 0
+Took h p was thread taken q =
+    Gave h p was (starts thread taken) q × Takes h.threads (events was) thread taken (seen_by q)
+
+-- in one hold the thread was given what the pool gives by the history that the hold began with
+abbrev pub IsAnswered : HubState → PassView Event → ℕ → Taken → PassView Event → Type 0
+IsAnswered h p thread taken q = (was : List (ℕ × Event)) × Took h p was thread taken q
+
+-- the pass has gone through holds in which it gave nothing
+abbrev pub HasOnlySeen : HubState → PassView Event → PassView Event → Type 0
+HasOnlySeen h p q = (q ≡ p) ⊎ GivesNothing h p q

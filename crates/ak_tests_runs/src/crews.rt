@@ -1,0 +1,51 @@
+//! A whole run by a crew.
+
+ghost use Rattle.std.specs.Prelude.{IfSome};
+ghost use Rattle.ak_exec.specs.Built.{AreBuilt};
+
+use ak_crew::crew::crew;
+use ak_exec::built::first_unbuilt;
+use ak_labor::labor::plain_hands;
+use ak_machine::config::Config;
+use ak_program::program::Program;
+use ak_syntax::parse::parse;
+use ak_valid::validate::validate;
+use std::alloc::Global;
+use std::test::*;
+
+// The program of a script, where it has no fault and is built.
+fn program_of(alloc: Global, script: &[u8]) -> Option<Program>
+    ensures { IfSome result (λ program. AreBuilt program.procs) }
+{
+    let Ok(script) = parse(alloc, script) else {
+        return None;
+    };
+    let Ok(program) = validate(alloc, script) else {
+        return None;
+    };
+    match first_unbuilt(&program) {
+        None => Some(program),
+        Some(_) => None,
+    }
+}
+
+#[test]
+fn a_crew_runs_a_print(rt: HostRuntime) -> Result<(), Fail> {
+    let alloc = rt.alloc();
+    let Some(program) = program_of(alloc, b"proc main\nprint 7\nend\n") else {
+        assert!(rt; false);
+        return Ok(());
+    };
+    let config = Config {
+        threads: 4,
+        limit: 500,
+        jobs: 100,
+    };
+    let hands = plain_hands(alloc, 32)?;
+    let ran = crew(&rt, alloc, program, config, hands)?;
+    // enq 0 normal, cycle, job 0, print 7, end idle; and drain, drain, close
+    assert_eq!(rt; ran.trace.len(), 5);
+    assert_eq!(rt; ran.history.len(), 3);
+    assert_eq!(rt; ran.hands.len(), 32);
+    Ok(())
+}

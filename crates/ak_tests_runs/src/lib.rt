@@ -1,0 +1,15 @@
+//! Tests of runs: commands, crews, hubs with their workers, and turns.
+#![tactic(auto)]
+
+#[cfg(test)]
+mod commands;
+#[cfg(test)]
+mod crews;
+#[cfg(test)]
+mod hubs;
+#[cfg(test)]
+mod meeting;
+#[cfg(test)]
+mod turns;
+#[cfg(test)]
+mod works;

@@ -1,0 +1,5 @@
+//! Turns over a plain counter and over a diary.
+
+mod count;
+mod diary;
+mod send;

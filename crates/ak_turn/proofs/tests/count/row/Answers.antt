@@ -1,7 +1,0 @@
-use Rattle.std.proofs.Common.{refl, arith}
-use Rattle.std.specs.List.{IsDistinct}
-use Rattle.ak_turn.proofs.tests.count.row.Goals as goal
-
-pub make-requires-clause-numbers : goal.make-requires-clause-numbers
-unfolding IsDistinct
-make-requires-clause-numbers g c κs = (omega arith, omega arith, ((refl, tt), (tt, tt)))
