@@ -76,12 +76,7 @@ impl Plain {
     }
 
     // A handler waits for an empty ivar.
-    fn register(
-        &mut self,
-        ivar: u32,
-        full: Option<Num>,
-        frame: u32,
-    ) -> Result<Answer, NoMemory> {
+    fn register(&mut self, ivar: u32, full: Option<Num>, frame: u32) -> Result<Answer, NoMemory> {
         if let Some(num) = full {
             return Ok(Answer::Full(num));
         }
@@ -122,12 +117,7 @@ impl Plain {
     }
 
     // A result takes the number of the right side, or its place.
-    fn connect(
-        &mut self,
-        to: u32,
-        full: Option<Num>,
-        from: u32,
-    ) -> Result<Connected, NoMemory> {
+    fn connect(&mut self, to: u32, full: Option<Num>, from: u32) -> Result<Connected, NoMemory> {
         if to == from {
             return Ok(Connected::Same);
         }

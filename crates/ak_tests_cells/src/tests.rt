@@ -46,8 +46,13 @@ fn plain_cells_answer_alike(rt: HostRuntime) -> Result<(), NoMemory> {
     let mut random = Pcg32::new(42, 54);
     for ivars in [1, 2, 4, 8, 16, 32, 64] {
         for story in 0..10 {
-            let difference =
-                first_difference::<Brand>(rt.alloc(), &mut random, ivars, 100, Blank::new(1))?;
+            let difference = first_difference::<Brand>(
+                rt.alloc(),
+                &mut random,
+                ivars,
+                100,
+                Blank::new(1),
+            )?;
             assert_eq!(rt; difference, None, "in story {story} of {ivars} ivars");
         }
     }
@@ -102,7 +107,11 @@ fn four_ivars_are_connected(rt: HostRuntime) -> Result<(), NoMemory> {
         (call(Register, 0, 0, 13), Waits(3), &[]),
         (call(Unregister, 0, 0, 1), Unregistered(Some(11)), &[]),
         (call(Unregister, 0, 0, 1), Unregistered(None), &[]),
-        (call(Fill, 0, 0, 5), Filled(true), &[(5, 10), (5, 12), (5, 13)]),
+        (
+            call(Fill, 0, 0, 5),
+            Filled(true),
+            &[(5, 10), (5, 12), (5, 13)],
+        ),
         (call(Connect, 2, 0, 0), Met(Connected::Same), &[]),
         (call(Connect, 3, 0, 0), Met(Connected::Filled(5)), &[]),
         (call(Connect, 3, 1, 0), Met(Connected::ResultFull), &[]),
