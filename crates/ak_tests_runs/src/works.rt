@@ -139,6 +139,40 @@ fn schedule<R: Wait>(
     (answer, pass)
 }
 
+// The scheduler and the threads side by side.
+fn serve_all<L: Labor + Drop, R: Threads + Wait + Sync>(
+    rt: &R,
+    alloc: Global,
+    hub: &Hub,
+    zero: HubPass,
+    hands: Vec<L>,
+    passes: Vec<HubPass>,
+    works: &[Work],
+) -> (
+    (Vec<L>, Vec<HubPass>),
+    (Result<Vec<(WorkNo, Outcome)>, NoMemory>, HubPass),
+)
+    requires zero { IsFreshZero hub.now zero }
+    requires few { length works.now < 2 ^ 32 - 1 }
+    requires count { (length passes.items ≤ hub.now.threads) × (hub.now.threads ≤ 32) }
+    requires rest { AreAtRest L.carried hub.now 0 hands.items passes.items }
+    ensures rest { AreAtRest L.carried hub.now 0 result.0.0.items result.0.1.items }
+    ensures zero { IsPassOf hub.now 0 result.1.1 }
+{
+    join(
+        rt,
+        move || -> (Vec<L>, Vec<HubPass>)
+            requires { IsSync R.row × (length passes.items ≤ hub.now.threads)
+                × (hub.now.threads ≤ 32) × AreAtRest L.carried hub.now 0 hands.items passes.items }
+            ensures { AreAtRest L.carried hub.entry.now 0 result.0.items result.1.items }
+        { work_all(rt, hub, hands, passes) },
+        move || -> (Result<Vec<(WorkNo, Outcome)>, NoMemory>, HubPass)
+            requires { IsFreshZero hub.now zero × (length works.now < 2 ^ 32 - 1) }
+            ensures { IsPassOf hub.entry.now 0 result.1 }
+        { schedule(rt, alloc, hub, zero, works) },
+    )
+}
+
 /// What the works leave that go through a hub of so many threads, each with the hand at its place.
 pub fn serve<L: Labor + Drop, R: Threads + Wait + Sync>(
     rt: &R,
@@ -153,19 +187,8 @@ pub fn serve<L: Labor + Drop, R: Threads + Wait + Sync>(
 {
     let (hub, mut zero) = Hub::make(alloc, threads)?;
     let passes = make_passes(alloc, &hub, &mut zero, threads)?;
-    let shared = &hub;
-    let ((hands, mut passes), (arrived, zero)) = join(
-        rt,
-        move || -> (Vec<L>, Vec<HubPass>)
-            requires { IsSync R.row × (length passes.items ≤ shared.now.threads)
-                × (shared.now.threads ≤ 32)
-                × AreAtRest L.carried shared.now 0 hands.items passes.items }
-            ensures { AreAtRest L.carried shared.entry.now 0 result.0.items result.1.items }
-        { work_all(rt, shared, hands, passes) },
-        move || -> (Result<Vec<(WorkNo, Outcome)>, NoMemory>, HubPass)
-            requires { IsFreshZero shared.now zero × (length works.now < 2 ^ 32 - 1) }
-            ensures { IsPassOf shared.entry.now 0 result.1 }
-        { schedule(rt, alloc, shared, zero, works) },
+    let ((hands, mut passes), (arrived, zero)) = serve_all(
+        rt, alloc, &hub, zero, hands, passes, works,
     );
     let arrived = arrived?;
     passes.push(zero)?;
