@@ -205,16 +205,16 @@ pub fn serve<L: Labor + Drop, R: Threads + Wait + Sync>(
 // Whether each of the works, whose numbers count from 0, arrived once, with its square.
 fn are_squares(arrived: &[(WorkNo, Outcome)], works: i64) -> bool {
     for num in 0..works {
-        let mut found = 0;
+        let mut found = false;
         for (id, outcome) in arrived {
             if i64::from(id.number()) == num {
-                if *outcome != Outcome::Good(num.wrapping_mul(num)) {
+                if found || *outcome != Outcome::Good(num.wrapping_mul(num)) {
                     return false;
                 }
-                found += 1;
+                found = true;
             }
         }
-        if found != 1 {
+        if !found {
             return false;
         }
     }
