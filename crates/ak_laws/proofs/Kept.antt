@@ -11,8 +11,12 @@ use Rattle.ak_choice.specs.Groups as groups
 use Rattle.ak_clock.specs.declared.alarm.Alarm.{Alarm}
 use Rattle.ak_clock.specs.Clock as clock
 use Rattle.ak_throttle.specs.declared.stage.Mark.{Mark}
+use Rattle.ak_throttle.specs.declared.answer.Enqueued.{Enqueued}
+use Rattle.ak_throttle.specs.declared.answer.Enqueued.TheVariants as placed
 use Rattle.ak_throttle.specs.Throttle as throttle
 use Rattle.ak_pipe.specs.declared.flush.Flush.{Flush}
+use Rattle.ak_pipe.specs.declared.answer.Got.{Got}
+use Rattle.ak_pipe.specs.declared.answer.Got.TheVariants.{Item, Eof, Waits}
 use Rattle.ak_pipe.specs.Pipe as pipe
 use Rattle.ak_frames.specs.declared.value.Value.{Value}
 use Rattle.ak_frames.specs.declared.value.Value.TheVariants.{Num}
@@ -41,7 +45,7 @@ use Rattle.ak_machine.specs.declared.held.Read.{Read}
 use Rattle.ak_machine.specs.State.{State}
 use Rattle.ak_machine.specs.Mapped.{state_renamed}
 use Rattle.ak_machine.specs.Deferred as deferred
-use Rattle.ak_machine.specs.Deferred.{noting, enqueue, called, number_at, fill, fill_at, fill_empty, filled_with, woken_by, register, register_at, connect, connect_at}
+use Rattle.ak_machine.specs.Deferred.{noting, enqueue, called, number_at, fill, fill_at, fill_empty, filled_with, filled_where, woken_by, register, register_at, connect, connect_at}
 use Rattle.ak_machine.specs.Monitors as monitors
 use Rattle.ak_machine.specs.Groups as group
 use Rattle.ak_machine.specs.Throttles as throttles
@@ -112,6 +116,10 @@ module _ (P : State → Type 0) (k : Kept P) where
 
   pub fill_keeps : (i : ℕ) (v : ℤ) (s : State) → P s → P (fill i v s)
   fill_keeps i v s p = fill_at_keeps (number_at i s) i v s p
+
+  pub filled_where_keeps : (b : Bool) (i : ℕ) (s : State) → P s → P (filled_where b i s)
+  filled_where_keeps true i s p = fill_keeps i (pos 0) s p
+  filled_where_keeps false i s p = p
 
   register_at_keeps : (o : Option ℤ) (i : ℕ) (ctx : Ctx) (frame : Frame) (s : State) → P s → P (register_at o i ctx frame s)
   register_at_keeps (Some v) i ctx frame s p = k.enq ctx _ s p
@@ -205,10 +213,14 @@ module _ (P : State → Type 0) (k : Kept P) where
   front_called_keeps t None s p = p
   front_called_keeps t (Some front) s p = body_called_keeps _ front.1 s p
 
+  body_placed_keeps : (x : Enqueued Body) (t : ℕ) (s : State) → P s → P (throttles.body_placed x t s)
+  body_placed_keeps (placed.Start n body) t s p = body_called_keeps _ body s p
+  body_placed_keeps (placed.Waits n) t s p = p
+
   pub body_enqueued_keeps : (t : ℕ) (body : Body) (s : State) → P s → P (throttles.body_enqueued t body s)
   body_enqueued_keeps t body s p =
-      if_keeps (throttle.has_room (throttles.throttle_at t s)) _ _
-      (body_called_keeps _ body _ (k.change s _ refl refl p)) (k.change s _ refl refl p)
+      body_placed_keeps (throttle.placed body (throttles.throttle_at t s)) t
+      (throttles.with_throttle_at t (throttle.enqueued body (throttles.throttle_at t s)) s) (k.change s _ refl refl p)
 
   marks_filled_keeps : (t : ℕ) (s : State) → P s → P (throttles.marks_filled t s)
   marks_filled_keeps t s p =
@@ -217,7 +229,7 @@ module _ (P : State → Type 0) (k : Kept P) where
 
   pub done_awaited_keeps : (t i : ℕ) (s : State) → P s → P (throttles.done_awaited t i s)
   done_awaited_keeps t i s p =
-      if_keeps (throttle.is_done (throttles.throttle_at t s)) _ _ (fill_keeps i (pos 0) s p) (k.change s _ refl refl p)
+      filled_where_keeps (throttle.is_done (throttles.throttle_at t s)) i _ (k.change s _ refl refl p)
 
   body_left_keeps : (b : BodyId) (s : State) → P s → P (throttles.body_left b s)
   body_left_keeps b s p =
@@ -280,9 +292,12 @@ module _ (P : State → Type 0) (k : Kept P) where
   pub put_keeps : (i : ℕ) (v : ℤ) (s : State) → P s → P (pipes.put i v s)
   put_keeps i v s p = taken_by_keeps (pipe.taker_of (pipes.pipe_at i s)) v _ (k.change s _ refl refl p)
 
-  pub pushed_back_keeps : (i r : ℕ) (s : State) → P s → P (pipes.pushed_back i r s)
-  pushed_back_keeps i r s p =
-      if_keeps (pipe.is_free (pipes.pipe_at i s)) _ _ (fill_keeps r (pos 0) s p) (k.change s _ refl refl p)
+  pub write_keeps : (i r : ℕ) (v : ℤ) (s : State) → P s → P (pipes.write i r v s)
+  write_keeps i r v s p =
+      let x : pipe.Pipe Read = pipes.pipe_at i s
+      in let after : State = pipes.with_pipe_at i (pipe.after_write v r x) s
+      in filled_where_keeps (pipe.is_free (pipe.put v x)) r (pipes.taken_by (pipe.taker_of x) v after)
+      (taken_by_keeps (pipe.taker_of x) v after (k.change s after refl refl p))
 
   pushbacks_freed_keeps : (i : ℕ) (s : State) → P s → P (pipes.pushbacks_freed i s)
   pushbacks_freed_keeps i s p =
@@ -294,17 +309,18 @@ module _ (P : State → Type 0) (k : Kept P) where
       fold_keeps (pipes.flush_filled (pipes.pipe_at i s)) (λ u flush q. fill_keeps flush.ivar _ u q)
       (pipe.settled_flushes (pipes.pipe_at i s)) _ (k.change s _ refl refl p)
 
-  read_from_keeps : (items : List ℤ) (i : ℕ) (r : Read) (s : State) → P s → P (pipes.read_from items i r s)
-  read_from_keeps (v ∷ items) i r s p =
-      let one : State = pipes.consumed_one i s
-      in let freed : State = pipes.pushbacks_freed i one
+  got_keeps : (x : Got Read) (i : ℕ) (s : State) → P s → P (pipes.got_for x i s)
+  got_keeps (Item v r) i s p =
+      let freed : State = pipes.pushbacks_freed i s
       in called_keeps r.ctx r.item.proc (Num v ∷ r.item.vals) (To r.item.to) (pipes.flushes_settled i freed)
-      (flushes_settled_keeps i freed (pushbacks_freed_keeps i one (k.change s one refl refl p)))
-  read_from_keeps [] i r s p =
-      if_keeps (pipes.pipe_at i s).closed _ _ (called_keeps r.ctx r.eof.proc r.eof.vals (To r.eof.to) s p) (k.change s _ refl refl p)
+      (flushes_settled_keeps i freed (pushbacks_freed_keeps i s p))
+  got_keeps (Eof r) i s p = called_keeps r.ctx r.eof.proc r.eof.vals (To r.eof.to) s p
+  got_keeps Waits i s p = p
 
   pub read_keeps : (i : ℕ) (r : Read) (s : State) → P s → P (pipes.read i r s)
-  read_keeps i r s p = read_from_keeps (pipe.items_of (pipes.pipe_at i s)) i r s p
+  read_keeps i r s p =
+      got_keeps (pipe.got r (pipes.pipe_at i s)) i (pipes.with_pipe_at i (pipe.after_read r (pipes.pipe_at i s)) s)
+      (k.change s _ refl refl p)
 
   eofs_called_keeps : (i : ℕ) (s : State) → P s → P (pipes.eofs_called i s)
   eofs_called_keeps i s p =
@@ -322,12 +338,14 @@ module _ (P : State → Type 0) (k : Kept P) where
       in eofs_called_keeps i (pipes.flushes_settled i freed)
       (flushes_settled_keeps i freed (pushbacks_freed_keeps i after (k.change s after refl refl p)))
 
-  flushed_at_keeps : (o : Option ℤ) (i r : ℕ) (s : State) → P s → P (pipes.flushed_at o i r s)
-  flushed_at_keeps (Some v) i r s p = fill_keeps r v s p
-  flushed_at_keeps None i r s p = k.change s _ refl refl p
+  learned_keeps : (o : Option ℤ) (r : ℕ) (s : State) → P s → P (pipes.learned o r s)
+  learned_keeps (Some v) r s p = fill_keeps r v s p
+  learned_keeps None r s p = p
 
   pub flushed_keeps : (i r : ℕ) (s : State) → P s → P (pipes.flushed i r s)
-  flushed_keeps i r s p = flushed_at_keeps (pipe.flushed_at_once (pipes.pipe_at i s)) i r s p
+  flushed_keeps i r s p =
+      learned_keeps (pipe.flushed_at_once (pipes.pipe_at i s)) r
+      (pipes.with_pipe_at i (pipe.after_flushed r (pipes.pipe_at i s)) s) (k.change s _ refl refl p)
 
   -- ---- alarms
   aborted_at_keeps : (o : Option Alarm) (s : State) → P s → P (alarms.aborted_at o s)

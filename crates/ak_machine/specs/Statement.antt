@@ -1,7 +1,7 @@
 -- What each statement does. From Async's documentation of `upon`, `bind`, `all`, `any`, `choose`, `Ivar`, `Scheduler`,
 -- `Clock`, `Monitor`, `Throttle`, `Pipe`, `Thread_pool` and `In_thread`; the statements themselves, their numbering, and the
 -- order of fills and enqueues inside one, are own.
-use Rattle.std.specs.Prelude.{ℕ, ℤ, pos, ◌+ℤ◌, List, map, true, false, Option, Some, None, length, if◌then◌else◌, int_lt}
+use Rattle.std.specs.Prelude.{ℕ, ℤ, ◌+ℤ◌, List, map, true, false, Option, Some, None, Result, Ok, Err, length, if◌then◌else◌}
 use Rattle.ak_base.specs.declared.number.Ctx.{Ctx}
 use Rattle.ak_labor.specs.declared.work.Work.{Work}
 use Rattle.ak_labor.specs.declared.work.WorkKind.{WorkKind}
@@ -15,17 +15,19 @@ use Rattle.ak_program.specs.declared.statement.NumChoice.{NumChoice}
 use Rattle.ak_program.specs.declared.statement.NumStmt.{NumStmt}
 use Rattle.ak_program.specs.declared.statement.NumStmt.TheVariants as stmt
 use Rattle.ak_program.specs.declared.program.NumStatement.{NumStatement}
-use Rattle.ak_clock.specs.Clock.{set_to}
+use Rattle.ak_clock.specs.declared.alarm.TickRefused.{TickRefused}
+use Rattle.ak_clock.specs.declared.alarm.TickRefused.TheVariants.{Negative, Overflow}
+use Rattle.ak_clock.specs.Clock.{set_to, ticked, fits}
 use Rattle.ak_machine.specs.declared.config.Flow.TheVariants as flow
 use Rattle.ak_machine.specs.declared.held.Handler.TheVariants.{OnError}
 use Rattle.ak_machine.specs.declared.held.Choosable.{Choosable}
 use Rattle.ak_machine.specs.State.{State}
-use Rattle.ak_machine.specs.Number.{Computed, Gives, Overflows, DividesByZero, computed, fits}
+use Rattle.ak_machine.specs.Number.{Computed, Gives, Overflows, DividesByZero, computed}
 use Rattle.ak_machine.specs.Deferred.{noting, called, with_ivar, is_empty, fill, register}
 use Rattle.ak_machine.specs.Monitors.{with_monitor, detach, handled_by, next_error_awaited, in_monitor}
 use Rattle.ak_machine.specs.Groups.{all_begun, any_begun, choice_begun, try_begun}
 use Rattle.ak_machine.specs.Throttles.{throttle_at, with_throttle, body_enqueued, done_awaited}
-use Rattle.ak_machine.specs.Pipes.{pipe_at, with_pipe, put, pushed_back, read, close, close_read, flushed}
+use Rattle.ak_machine.specs.Pipes.{pipe_at, with_pipe, put, write, read, close, close_read, flushed}
 use Rattle.ak_machine.specs.Alarms.{with_alarm, with_yield, abort}
 use Rattle.ak_machine.specs.Errors.{After, send}
 use Rattle.ak_machine.specs.Works.{submitted, helper_at, is_active, helper_ended}
@@ -56,11 +58,11 @@ sent_effect after vals =
 abbrev pub alarm_effect : ℤ → State → List Value → Effect
 alarm_effect time s vals = if fits time then Goes (with_alarm time s) vals else Raises overflow
 
--- the clock goes on by n, to a time of 64 bits
-abbrev pub tick_effect : ℤ → ℤ → State → List Value → Effect
-tick_effect n time s vals =
-    if int_lt n (pos 0) then Raises negative_tick
-    else if fits time then Goes (record s { clock = set_to time s.clock }) vals else Raises overflow
+-- the clock goes on to a time, or raises
+abbrev pub tick_effect : Result (Unit {0}) TickRefused → ℤ → State → List Value → Effect
+tick_effect (Ok u) time s vals = Goes (record s { clock = set_to time s.clock }) vals
+tick_effect (Err Negative) time s vals = Raises negative_tick
+tick_effect (Err Overflow) time s vals = Raises overflow
 
 -- what one statement does in a context. A result is the next ivar, drawn before the other effects
 abbrev pub effect_of : Ctx → NumStmt → State → List Value → Effect
@@ -94,7 +96,9 @@ effect_of ctx (stmt.After r n) s vals = alarm_effect (s.clock.time +ℤ number_i
 effect_of ctx (stmt.Event e r n) s vals =
     alarm_effect (s.clock.time +ℤ number_in vals n) s (result_bound s (bound vals (Event s.clock.next)))
 effect_of ctx (stmt.Abort e) s vals = Goes (abort (name_in vals e) s) vals
-effect_of ctx (stmt.Tick n) s vals = tick_effect (number_in vals n) (s.clock.time +ℤ number_in vals n) s vals
+effect_of ctx (stmt.Tick n) s vals =
+    let time : ℤ = s.clock.time +ℤ number_in vals n
+    in tick_effect (ticked (number_in vals n) time) time s vals
 effect_of ctx (stmt.Monitor m) s vals = Goes (with_monitor ctx.mon s) (bound vals (Mon (length s.monitors)))
 effect_of ctx (stmt.Within m proc args) s vals =
     Goes (called (in_monitor (name_in vals m) ctx) proc (args_of vals args) Drop s) vals
@@ -123,7 +127,7 @@ effect_of ctx (stmt.Write r p a) s vals =
     if (pipe_at (name_in vals p) s).closed then Raises closed_pipe
     else
     Goes
-    (pushed_back (name_in vals p) (length s.cells.ivars) (put (name_in vals p) (number_in vals a) (with_ivar s)))
+    (write (name_in vals p) (length s.cells.ivars) (number_in vals a) (with_ivar s))
     (result_bound s vals)
 effect_of ctx (stmt.Put p a) s vals =
     if (pipe_at (name_in vals p) s).closed then Raises closed_pipe
