@@ -5,6 +5,7 @@ use Rattle.ak_labor.specs.declared.work.Outcome.TheVariants as outcome
 use Rattle.ak_labor.specs.declared.work.WorkKind.TheVariants as kind
 use Rattle.ak_labor.specs.Calls.{Pairs, Granted, Done}
 use Rattle.ak_script.specs.declared.statement.Operator.TheVariants as operator
+use Rattle.ak_script.specs.declared.statement.GuardMode.TheVariants as mode
 use Rattle.ak_program.specs.declared.statement.NumAtom.TheVariants.{Literal, Local}
 use Rattle.ak_program.specs.declared.statement.NumStmt.TheVariants as stmt
 use Rattle.ak_program.specs.declared.program.NumPrefix.TheVariants.{If, Unless}
@@ -91,8 +92,8 @@ sim_3112_program =
     line (stmt.HelperDone 5) ∷
     line (stmt.HelperWork 8 3 kind.Square (Literal (pos 5))) ∷
     line (stmt.Work 9 kind.Square (Local 6)) ∷
-    line (stmt.Try 10 4 [] 10 []) ∷
-    line (stmt.Try 11 6 (Local 6 ∷ []) 19 []) ∷
+    line (stmt.Try 10 4 [] 10 [] mode.Drop) ∷
+    line (stmt.Try 11 6 (Local 6 ∷ []) 19 [] mode.Drop) ∷
     line (stmt.All 12 (11 ∷ 11 ∷ 7 ∷ []) 22 []) ∷
     line (stmt.Upon 12 24 (Literal (pos 4) ∷ [])) ∷
     line (stmt.Set 13 (Local 6) operator.Rem (Literal (negsuc 1))) ∷

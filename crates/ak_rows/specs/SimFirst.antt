@@ -5,6 +5,7 @@ use Rattle.ak_labor.specs.declared.work.Outcome.TheVariants as outcome
 use Rattle.ak_labor.specs.declared.work.WorkKind.TheVariants as kind
 use Rattle.ak_labor.specs.Calls.{Pairs, Granted, Done}
 use Rattle.ak_script.specs.declared.statement.Operator.TheVariants as operator
+use Rattle.ak_script.specs.declared.statement.GuardMode.TheVariants as mode
 use Rattle.ak_program.specs.declared.statement.NumAtom.TheVariants.{Literal, Local}
 use Rattle.ak_program.specs.declared.statement.NumStmt.TheVariants as stmt
 use Rattle.ak_program.specs.declared.program.NumPrefix.TheVariants.{If, Unless}
@@ -268,9 +269,9 @@ sim_3002_program =
     line (stmt.Read 2 1 25 (Local 1 ∷ []) 19 []) ∷
     line (stmt.Ret (Local 2)) ∷
     []) ∷
-    proc (line (stmt.Try 1 27 (Local 0 ∷ []) 27 []) ∷ line (stmt.Upon 1 29 []) ∷ line (stmt.Ret (Local 1)) ∷ []) ∷
+    proc (line (stmt.Try 1 27 (Local 0 ∷ []) 27 [] mode.Drop) ∷ line (stmt.Upon 1 29 []) ∷ line (stmt.Ret (Local 1)) ∷ []) ∷
     proc (line (stmt.Raise (Local 0)) ∷ []) ∷
-    proc (line (stmt.Try 0 18 [] 29 []) ∷ line (stmt.Ret (Local 0)) ∷ []) ∷
+    proc (line (stmt.Try 0 18 [] 29 [] mode.Drop) ∷ line (stmt.Ret (Local 0)) ∷ []) ∷
     proc (line (stmt.Ret (Local 0)) ∷ []) ∷
     proc (line (stmt.Print (Local 0)) ∷ line (stmt.Print (Local 1)) ∷ []) ∷
     proc
@@ -322,7 +323,7 @@ sim_3003_program =
     proc (line (stmt.Never 1) ∷ line (stmt.Ret (Local 1)) ∷ []) ∷
     proc (line (stmt.Ret (Local 0)) ∷ []) ∷
     proc (line (stmt.Sched 7 []) ∷ line (stmt.Raise (Literal (pos 8))) ∷ []) ∷
-    proc (line (stmt.Try 0 2 [] 1 []) ∷ line (stmt.Ret (Local 0)) ∷ []) ∷
+    proc (line (stmt.Try 0 2 [] 1 [] mode.Drop) ∷ line (stmt.Ret (Local 0)) ∷ []) ∷
     proc
     (line (stmt.Pipe 2 2) ∷
     line (stmt.Monitor 3) ∷
@@ -608,7 +609,7 @@ sim_3011_program =
     []) ∷
     proc (line (stmt.Raise (Literal (pos 7))) ∷ []) ∷
     proc [] ∷
-    proc (line (stmt.Try 0 23 [] 8 []) ∷ line (stmt.Ret (Local 0)) ∷ []) ∷
+    proc (line (stmt.Try 0 23 [] 8 [] mode.Drop) ∷ line (stmt.Ret (Local 0)) ∷ []) ∷
     proc
     (line (stmt.After 1 (Literal (pos 1))) ∷
     line (stmt.Tick (Literal (pos 1))) ∷
@@ -622,7 +623,7 @@ sim_3011_program =
     line (stmt.Ret (Local 5)) ∷
     []) ∷
     proc (line (stmt.Print (Local 0)) ∷ line (stmt.Print (Local 1)) ∷ []) ∷
-    proc (line (stmt.Try 1 19 (Local 0 ∷ []) 19 []) ∷ line (stmt.Upon 1 8 []) ∷ line (stmt.Ret (Local 1)) ∷ []) ∷
+    proc (line (stmt.Try 1 19 (Local 0 ∷ []) 19 [] mode.Drop) ∷ line (stmt.Upon 1 8 []) ∷ line (stmt.Ret (Local 1)) ∷ []) ∷
     proc (line (stmt.Ret (Local 0)) ∷ []) ∷
     proc
     (line (stmt.Monitor 0) ∷
@@ -641,7 +642,7 @@ sim_3011_program =
     proc (line (stmt.Sched 3 []) ∷ line (stmt.Ret (Local 2)) ∷ []) ∷
     proc (line (stmt.Print (Local 0)) ∷ []) ∷
     proc
-    (line (stmt.Try 3 2 [] 8 []) ∷
+    (line (stmt.Try 3 2 [] 8 [] mode.Drop) ∷
     line (stmt.Sched 15 (Local 2 ∷ [])) ∷
     line (stmt.Ivar 4) ∷
     line (stmt.Ivar 5) ∷

@@ -5,6 +5,7 @@ use Rattle.ak_labor.specs.declared.work.Outcome.TheVariants as outcome
 use Rattle.ak_labor.specs.declared.work.WorkKind.TheVariants as kind
 use Rattle.ak_labor.specs.Calls.{Pairs, Granted, Done}
 use Rattle.ak_script.specs.declared.statement.Operator.TheVariants as operator
+use Rattle.ak_script.specs.declared.statement.GuardMode.TheVariants as mode
 use Rattle.ak_program.specs.declared.statement.NumAtom.TheVariants.{Literal, Local}
 use Rattle.ak_program.specs.declared.statement.NumStmt.TheVariants as stmt
 use Rattle.ak_program.specs.declared.program.NumPrefix.TheVariants.{If, Unless}
@@ -41,7 +42,7 @@ sim_3051_program =
     line_when (Unless (Literal (pos 1))) (stmt.Put 0 (Literal (pos 1))) ∷
     line (stmt.Close 0) ∷
     line (stmt.Read 6 0 7 (Literal (pos 2) ∷ []) 4 (Local 3 ∷ [])) ∷
-    line (stmt.Try 7 2 (Literal (pos 2) ∷ Literal (pos 9) ∷ []) 3 []) ∷
+    line (stmt.Try 7 2 (Literal (pos 2) ∷ Literal (pos 9) ∷ []) 3 [] mode.Drop) ∷
     line (stmt.Pipe 8 2) ∷
     line (stmt.Read 9 8 7 (Literal (pos 2) ∷ []) 10 (Literal (pos 2) ∷ [])) ∷
     line (stmt.Write 10 8 (Literal (pos 12))) ∷
@@ -61,7 +62,7 @@ sim_3051_program =
     line (stmt.Bind 6 5 2 (Local 3 ∷ [])) ∷
     line (stmt.Ret (Local 6)) ∷
     []) ∷
-    proc (line (stmt.Try 1 10 (Local 0 ∷ []) 10 []) ∷ line (stmt.Upon 1 0 []) ∷ line (stmt.Ret (Local 1)) ∷ []) ∷
+    proc (line (stmt.Try 1 10 (Local 0 ∷ []) 10 [] mode.Drop) ∷ line (stmt.Upon 1 0 []) ∷ line (stmt.Ret (Local 1)) ∷ []) ∷
     proc (line (stmt.Ret (Local 0)) ∷ []) ∷
     proc
     (line (stmt.Flushed 2 1) ∷
@@ -91,7 +92,7 @@ sim_3051_program =
     line_when (Unless (Literal (pos 1))) (stmt.Put 0 (Literal (pos 1))) ∷
     line (stmt.Close 0) ∷
     line (stmt.Read 6 0 7 (Literal (pos 2) ∷ []) 4 (Local 3 ∷ [])) ∷
-    line (stmt.Try 7 2 (Literal (pos 2) ∷ Literal (pos 9) ∷ []) 3 []) ∷
+    line (stmt.Try 7 2 (Literal (pos 2) ∷ Literal (pos 9) ∷ []) 3 [] mode.Drop) ∷
     line (stmt.Pipe 8 2) ∷
     line (stmt.Read 9 8 7 (Literal (pos 2) ∷ []) 10 (Literal (pos 2) ∷ [])) ∷
     line (stmt.Write 10 8 (Literal (pos 12))) ∷
@@ -161,7 +162,7 @@ sim_3054_program =
     line (stmt.CloseRead 0) ∷
     line (stmt.Flushed 5 0) ∷
     line (stmt.Upon 5 4 (Local 5 ∷ [])) ∷
-    line (stmt.Try 6 15 [] 3 []) ∷
+    line (stmt.Try 6 15 [] 3 [] mode.Drop) ∷
     line (stmt.Bind 7 4 13 (Literal (pos 0) ∷ [])) ∷
     line (stmt.Bind 8 3 8 (Literal (pos 4) ∷ [])) ∷
     line (stmt.Upon 8 5 []) ∷
@@ -181,7 +182,7 @@ sim_3054_program =
     line (stmt.Choose 5 (choice 1 9 ∷ choice 1 9 ∷ choice 1 16 ∷ []) []) ∷
     line_when (If (Local 4)) (stmt.Sched 4 (Local 3 ∷ Local 1 ∷ [])) ∷
     []) ∷
-    proc (line (stmt.Try 1 17 (Local 0 ∷ []) 17 []) ∷ line (stmt.Upon 1 10 []) ∷ line (stmt.Ret (Local 1)) ∷ []) ∷
+    proc (line (stmt.Try 1 17 (Local 0 ∷ []) 17 [] mode.Drop) ∷ line (stmt.Upon 1 10 []) ∷ line (stmt.Ret (Local 1)) ∷ []) ∷
     proc (line (stmt.Work 0 kind.Fail (Literal (pos 4))) ∷ line (stmt.Ret (Local 0)) ∷ []) ∷
     proc
     (line (stmt.Monitor 0) ∷
@@ -541,7 +542,7 @@ sim_3108_program =
     line (stmt.Ret (Local 2)) ∷
     []) ∷
     proc (line (stmt.Ret (Local 0)) ∷ []) ∷
-    proc (line (stmt.Try 1 1 (Local 0 ∷ []) 1 []) ∷ line (stmt.Upon 1 3 []) ∷ line (stmt.Ret (Local 1)) ∷ []) ∷
+    proc (line (stmt.Try 1 1 (Local 0 ∷ []) 1 [] mode.Drop) ∷ line (stmt.Upon 1 3 []) ∷ line (stmt.Ret (Local 1)) ∷ []) ∷
     []
 
 abbrev pub sim_3108_trace : List Entry

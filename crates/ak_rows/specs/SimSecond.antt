@@ -5,6 +5,7 @@ use Rattle.ak_labor.specs.declared.work.Outcome.TheVariants as outcome
 use Rattle.ak_labor.specs.declared.work.WorkKind.TheVariants as kind
 use Rattle.ak_labor.specs.Calls.{Pairs, Granted, Done}
 use Rattle.ak_script.specs.declared.statement.Operator.TheVariants as operator
+use Rattle.ak_script.specs.declared.statement.GuardMode.TheVariants as mode
 use Rattle.ak_program.specs.declared.statement.NumAtom.TheVariants.{Literal, Local}
 use Rattle.ak_program.specs.declared.statement.NumStmt.TheVariants as stmt
 use Rattle.ak_program.specs.declared.program.NumPrefix.TheVariants.{If, Unless}
@@ -46,7 +47,7 @@ sim_3013_program =
     line (stmt.Bind 6 5 1 (Local 3 ∷ [])) ∷
     line (stmt.Ret (Local 6)) ∷
     []) ∷
-    proc (line (stmt.Try 1 3 (Local 0 ∷ []) 3 []) ∷ line (stmt.Upon 1 13 []) ∷ line (stmt.Ret (Local 1)) ∷ []) ∷
+    proc (line (stmt.Try 1 3 (Local 0 ∷ []) 3 [] mode.Drop) ∷ line (stmt.Upon 1 13 []) ∷ line (stmt.Ret (Local 1)) ∷ []) ∷
     proc (line (stmt.Raise (Local 0)) ∷ []) ∷
     proc (line (stmt.Print (Local 0)) ∷ []) ∷
     proc (line (stmt.Raise (Literal (pos 7))) ∷ []) ∷
@@ -82,7 +83,7 @@ sim_3013_program =
     line (stmt.Work 11 kind.Square (Literal (negsuc 2))) ∷
     line (stmt.Work 12 kind.Mix (Literal (pos 1000))) ∷
     line_when (Unless (Literal (negsuc 2))) (stmt.Upon 1 11 (Local 5 ∷ [])) ∷
-    line (stmt.Try 13 14 (Literal (pos 12) ∷ Local 4 ∷ []) 13 []) ∷
+    line (stmt.Try 13 14 (Literal (pos 12) ∷ Local 4 ∷ []) 13 [] mode.Drop) ∷
     line (stmt.Bind 14 13 2 []) ∷
     line (stmt.Upon 14 11 (Local 5 ∷ [])) ∷
     line (stmt.Read 15 5 7 (Literal (pos 3) ∷ Literal (pos 3) ∷ []) 9 []) ∷
@@ -166,7 +167,7 @@ sim_3014_program =
     proc (line (stmt.Set 1 (Local 0) operator.Div (Literal (pos 0))) ∷ line (stmt.Ret (Local 1)) ∷ []) ∷
     proc (line (stmt.Print (Local 0)) ∷ line (stmt.Print (Local 1)) ∷ []) ∷
     proc (line (stmt.Sched 1 []) ∷ line (stmt.Sched 21 []) ∷ line (stmt.Raise (Literal (pos 6))) ∷ []) ∷
-    proc (line (stmt.Try 0 2 [] 23 []) ∷ line (stmt.Ret (Local 0)) ∷ []) ∷
+    proc (line (stmt.Try 0 2 [] 23 [] mode.Drop) ∷ line (stmt.Ret (Local 0)) ∷ []) ∷
     proc [] ∷
     proc
     (line (stmt.ThrottleDone 2 1) ∷
@@ -225,7 +226,7 @@ sim_3014_program =
     line (stmt.Yield 7) ∷
     line (stmt.Upon 7 4 (Literal (pos 4) ∷ [])) ∷
     line (stmt.Low 0 (Literal (pos 2) ∷ [])) ∷
-    line (stmt.Try 8 4 (Literal (pos 2) ∷ Literal (pos 1) ∷ []) 16 []) ∷
+    line (stmt.Try 8 4 (Literal (pos 2) ∷ Literal (pos 1) ∷ []) 16 [] mode.Drop) ∷
     line (stmt.Ret (Local 2)) ∷
     []) ∷
     proc
@@ -429,7 +430,7 @@ sim_3022_program =
     line (stmt.Upon 1 13 (Literal (pos 12) ∷ [])) ∷
     line (stmt.Yield 11) ∷
     []) ∷
-    proc (line (stmt.Try 1 14 (Local 0 ∷ []) 14 []) ∷ line (stmt.Upon 1 6 []) ∷ line (stmt.Ret (Local 1)) ∷ []) ∷
+    proc (line (stmt.Try 1 14 (Local 0 ∷ []) 14 [] mode.Drop) ∷ line (stmt.Upon 1 6 []) ∷ line (stmt.Ret (Local 1)) ∷ []) ∷
     proc (line (stmt.Print (Local 0)) ∷ []) ∷
     proc (line (stmt.Ret (Local 1)) ∷ []) ∷
     proc (line (stmt.Ret (Local 0)) ∷ []) ∷
@@ -547,7 +548,7 @@ sim_3029_program =
     line_when (If (Local 3)) (stmt.Sched 3 (Local 2 ∷ [])) ∷
     []) ∷
     proc (line (stmt.Close 1) ∷ line (stmt.Read 2 1 28 [] 15 []) ∷ line (stmt.Ret (Local 2)) ∷ []) ∷
-    proc (line (stmt.Try 0 12 [] 28 []) ∷ line (stmt.Ret (Local 0)) ∷ []) ∷
+    proc (line (stmt.Try 0 12 [] 28 [] mode.Drop) ∷ line (stmt.Ret (Local 0)) ∷ []) ∷
     proc
     (line (stmt.HelperWork 1 0 kind.Mix (Literal (pos 3))) ∷
     line (stmt.HelperWork 2 0 kind.Fail (Literal (pos 2))) ∷
@@ -575,7 +576,7 @@ sim_3029_program =
     line (stmt.NextError 3 1) ∷
     line (stmt.Within 1 0 (Literal (pos 12) ∷ [])) ∷
     line (stmt.Within 1 19 (Literal (pos 3) ∷ [])) ∷
-    line (stmt.Try 4 25 [] 28 []) ∷
+    line (stmt.Try 4 25 [] 28 [] mode.Drop) ∷
     line (stmt.Throttle 5 1 false) ∷
     line (stmt.Enqueue 6 5 18 []) ∷
     line (stmt.Enqueue 7 5 18 []) ∷
@@ -607,7 +608,7 @@ sim_3029_program =
     line (stmt.NextError 3 1) ∷
     line (stmt.Within 1 0 (Literal (pos 12) ∷ [])) ∷
     line (stmt.Within 1 19 (Literal (pos 3) ∷ [])) ∷
-    line (stmt.Try 4 25 [] 28 []) ∷
+    line (stmt.Try 4 25 [] 28 [] mode.Drop) ∷
     line (stmt.Throttle 5 1 false) ∷
     line (stmt.Enqueue 6 5 18 []) ∷
     line (stmt.Enqueue 7 5 18 []) ∷

@@ -5,6 +5,7 @@ use Rattle.ak_labor.specs.declared.work.Outcome.TheVariants as outcome
 use Rattle.ak_labor.specs.declared.work.WorkKind.TheVariants as kind
 use Rattle.ak_labor.specs.Calls.{Pairs, Done}
 use Rattle.ak_script.specs.declared.statement.Operator.TheVariants as operator
+use Rattle.ak_script.specs.declared.statement.GuardMode.TheVariants as mode
 use Rattle.ak_program.specs.declared.statement.NumAtom.TheVariants.{Literal, Local}
 use Rattle.ak_program.specs.declared.statement.NumStmt.TheVariants as stmt
 use Rattle.ak_program.specs.declared.program.NumPrefix.TheVariants.{If, Unless}
@@ -194,7 +195,7 @@ sim_3039_program =
     line (stmt.Read 2 1 7 (Local 1 ∷ []) 4 []) ∷
     line (stmt.Ret (Local 2)) ∷
     []) ∷
-    proc (line (stmt.Try 1 5 (Local 0 ∷ []) 5 []) ∷ line (stmt.Upon 1 1 []) ∷ line (stmt.Ret (Local 1)) ∷ []) ∷
+    proc (line (stmt.Try 1 5 (Local 0 ∷ []) 5 [] mode.Drop) ∷ line (stmt.Upon 1 1 []) ∷ line (stmt.Ret (Local 1)) ∷ []) ∷
     proc
     (line (stmt.Never 0) ∷
     line (stmt.Yield 1) ∷
@@ -434,7 +435,7 @@ sim_3044_program =
     line (stmt.Flushed 3 0) ∷
     line (stmt.Ret (Local 2)) ∷
     []) ∷
-    proc (line (stmt.Try 1 28 (Local 0 ∷ []) 28 []) ∷ line (stmt.Upon 1 19 []) ∷ line (stmt.Ret (Local 1)) ∷ []) ∷
+    proc (line (stmt.Try 1 28 (Local 0 ∷ []) 28 [] mode.Drop) ∷ line (stmt.Upon 1 19 []) ∷ line (stmt.Ret (Local 1)) ∷ []) ∷
     proc (line (stmt.Print (Local 0)) ∷ []) ∷
     proc [] ∷
     proc
@@ -452,7 +453,7 @@ sim_3044_program =
     line_when (Unless (Literal (pos 2))) (stmt.Abort 8) ∷
     line (stmt.Tick (Literal (pos 2))) ∷
     line (stmt.Upon 10 4 (Literal (pos 2) ∷ Literal (pos 2) ∷ [])) ∷
-    line (stmt.Try 11 5 (Literal (negsuc 0) ∷ Local 0 ∷ []) 6 []) ∷
+    line (stmt.Try 11 5 (Literal (negsuc 0) ∷ Local 0 ∷ []) 6 [] mode.Drop) ∷
     line (stmt.Bind 12 11 5 (Local 0 ∷ [])) ∷
     line (stmt.Bind 13 12 31 (Local 6 ∷ [])) ∷
     line (stmt.Upon 13 28 []) ∷
@@ -470,7 +471,7 @@ sim_3044_program =
     proc (line (stmt.Monitor 0) ∷ line (stmt.Send 0 (Literal (pos 5))) ∷ line (stmt.Ret (Literal (pos 2))) ∷ []) ∷
     proc (line (stmt.Never 4) ∷ line (stmt.Ivar 5) ∷ line (stmt.Ret (Local 5)) ∷ []) ∷
     proc (line (stmt.Yield 0) ∷ line (stmt.Upon 0 28 []) ∷ line (stmt.Ret (Local 0)) ∷ []) ∷
-    proc (line (stmt.Try 0 10 [] 19 []) ∷ line (stmt.Ret (Local 0)) ∷ []) ∷
+    proc (line (stmt.Try 0 10 [] 19 [] mode.Drop) ∷ line (stmt.Ret (Local 0)) ∷ []) ∷
     proc (line (stmt.Work 0 kind.Fail (Literal (pos 4))) ∷ line (stmt.Ret (Local 0)) ∷ []) ∷
     proc
     (line (stmt.Pipe 1 2) ∷

@@ -15,4 +15,5 @@ mod rows;
 mod shape;
 #[cfg(test)]
 mod tests;
+pub mod version;
 mod word;
