@@ -28,6 +28,7 @@ quiet_is_no_end (entry.Join r i) q = tt
 quiet_is_no_end (entry.Print z) q = tt
 quiet_is_no_end (entry.Monitor m p) q = tt
 quiet_is_no_end (entry.Detach m) q = tt
+quiet_is_no_end (entry.Attach m) q = tt
 quiet_is_no_end (entry.Error e m) q = tt
 quiet_is_no_end (entry.Caught m) q = tt
 quiet_is_no_end (entry.Rest e) q = tt

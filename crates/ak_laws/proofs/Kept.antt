@@ -8,6 +8,8 @@ use Rattle.ak_cells.specs.Cells.{waiting_on, filled}
 use Rattle.ak_rings.specs.Queues.{recounted}
 use Rattle.ak_monitor.specs.Monitors.{monitor_in, catcher, path, up_to}
 use Rattle.ak_choice.specs.Groups as groups
+use Rattle.ak_script.specs.declared.statement.GuardMode.{GuardMode}
+use Rattle.ak_script.specs.declared.statement.GuardMode.TheVariants as mode
 use Rattle.ak_clock.specs.declared.alarm.Alarm.{Alarm}
 use Rattle.ak_clock.specs.Clock as clock
 use Rattle.ak_throttle.specs.declared.stage.Mark.{Mark}
@@ -61,6 +63,7 @@ IsQuiet (entry.Join r i) = Unit {0}
 IsQuiet (entry.Print z) = Unit {0}
 IsQuiet (entry.Monitor m p) = Unit {0}
 IsQuiet (entry.Detach m) = Unit {0}
+IsQuiet (entry.Attach m) = Unit {0}
 IsQuiet (entry.Error e m) = Unit {0}
 IsQuiet (entry.Caught m) = Unit {0}
 IsQuiet (entry.Rest e) = Unit {0}
@@ -143,6 +146,9 @@ module _ (P : State → Type 0) (k : Kept P) where
   pub detach_keeps : (m : ℕ) (s : State) → P s → P (monitors.detach m s)
   detach_keeps m s p = k.note (entry.Detach m) _ tt (k.change s _ refl refl p)
 
+  attach_keeps : (m : ℕ) (s : State) → P s → P (monitors.attach m s)
+  attach_keeps m s p = k.note (entry.Attach m) _ tt (k.change s _ refl refl p)
+
   called_under_keeps : (h : Handler) (ctx : Ctx) (proc : ℕ) (vals : List Value) (ret : Ret) (s : State) → P s → P (monitors.called_under h ctx proc vals ret s)
   called_under_keeps h ctx proc vals ret s p =
       called_keeps _ proc vals ret _
@@ -173,27 +179,35 @@ module _ (P : State → Type 0) (k : Kept P) where
   choice_begun_keeps ctx cs vals r s p =
       choice_registered_keeps ctx (length s.groups) (map group.deferred_of cs) _ (k.change s _ refl refl p)
 
-  pub try_begun_keeps : (ctx : Ctx) (proc : ℕ) (vals : List Value) (c : Callback) (s : State) → P s → P (group.try_begun ctx proc vals c s)
-  try_begun_keeps ctx proc vals c s p =
+  pub try_begun_keeps : (ctx : Ctx) (kind : GuardMode) (proc : ℕ) (vals : List Value) (c : Callback) (s : State) → P s
+      → P (group.try_begun ctx kind proc vals c s)
+  try_begun_keeps ctx kind proc vals c s p =
       called_under_keeps (OfGuard (length s.groups)) ctx proc vals (TryBody (length s.groups)) _ (k.change s _ refl refl p)
 
+  left_by_guard_keeps : (kind : GuardMode) (m : ℕ) (s : State) → P s → P (group.left_by_guard kind m s)
+  left_by_guard_keeps mode.Drop m s p = p
+  left_by_guard_keeps mode.Raise m s p = attach_keeps m s p
+
+  guard_decided_keeps : (kind : GuardMode) (m g : ℕ) (s : State) → P s → P (group.guard_decided kind m g s)
+  guard_decided_keeps kind m g s p = left_by_guard_keeps kind m _ (k.change s (group.decided g s) refl refl p)
+
   guard_catches_keeps : (q : Purpose) (b : Bool) (g : ℕ) (e : ℤ) (s : State) → P s → P (group.guard_catches q b g e s)
-  guard_catches_keeps (ForGuard ctx c) false g e s p = k.enq ctx _ _ (k.change s _ refl refl p)
-  guard_catches_keeps (ForGuard ctx c) true g e s p = k.note (entry.Rest e) s tt p
+  guard_catches_keeps (ForGuard ctx m kind c) false g e s p = k.enq ctx _ _ (guard_decided_keeps kind m g s p)
+  guard_catches_keeps (ForGuard ctx m kind c) true g e s p = k.note (entry.Rest e) s tt p
   guard_catches_keeps (ForAll c) b g e s p = p
   guard_catches_keeps (ForAny ds r) b g e s p = p
   guard_catches_keeps (ForChoice choices vals r) b g e s p = p
 
   guard_filled_keeps : (q : Purpose) (b : Bool) (g : ℕ) (v : ℤ) (s : State) → P s → P (group.guard_filled q b g v s)
-  guard_filled_keeps (ForGuard ctx c) false g v s p = fill_keeps c.to v _ (k.change s _ refl refl p)
-  guard_filled_keeps (ForGuard ctx c) true g v s p = p
+  guard_filled_keeps (ForGuard ctx m kind c) false g v s p = fill_keeps c.to v _ (guard_decided_keeps kind m g s p)
+  guard_filled_keeps (ForGuard ctx m kind c) true g v s p = p
   guard_filled_keeps (ForAll c) b g v s p = p
   guard_filled_keeps (ForAny ds r) b g v s p = p
   guard_filled_keeps (ForChoice choices vals r) b g v s p = p
 
   guard_waits_keeps : (q : Purpose) (b : Bool) (g i : ℕ) (s : State) → P s → P (group.guard_waits q b g i s)
-  guard_waits_keeps (ForGuard ctx c) false g i s p = register_keeps i ctx (TryDone g) s p
-  guard_waits_keeps (ForGuard ctx c) true g i s p = p
+  guard_waits_keeps (ForGuard ctx m kind c) false g i s p = register_keeps i ctx (TryDone g) s p
+  guard_waits_keeps (ForGuard ctx m kind c) true g i s p = p
   guard_waits_keeps (ForAll c) b g i s p = p
   guard_waits_keeps (ForAny ds r) b g i s p = p
   guard_waits_keeps (ForChoice choices vals r) b g i s p = p

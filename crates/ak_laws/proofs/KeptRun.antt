@@ -150,7 +150,7 @@ module _ (P : State → Type 0) (k : Kept P) where
   effect_keeps ctx (stmt.Raise a) s vals p = tt
   effect_keeps ctx (stmt.Send m a) s vals p =
       sent_keeps (send (name_in vals m) (number_in vals a) s) vals (send_keeps P k (name_in vals m) (number_in vals a) s p)
-  effect_keeps ctx (stmt.Try r proc args catch catch_args) s vals p = try_begun_keeps P k ctx proc _ _ (with_ivar s) (fresh_keeps s p)
+  effect_keeps ctx (stmt.Try r proc args catch catch_args kind) s vals p = try_begun_keeps P k ctx kind proc _ _ (with_ivar s) (fresh_keeps s p)
   effect_keeps ctx (stmt.Throttle t n stop) s vals p = k.change s _ refl refl p
   effect_keeps ctx (stmt.Enqueue r t proc args) s vals p =
       if_effect (throttle_at (name_in vals t) s).dead _ _ tt
@@ -231,7 +231,7 @@ module _ (P : State → Type 0) (k : Kept P) where
   all_part_keeps program ctx (ForAll c) g s p = call_if_keeps program ctx (all_call g c s) s p
   all_part_keeps program ctx (ForAny ds r) g s p = p
   all_part_keeps program ctx (ForChoice choices vals r) g s p = p
-  all_part_keeps program ctx (ForGuard ctx' c) g s p = p
+  all_part_keeps program ctx (ForGuard ctx' m kind c) g s p = p
 
   part_keeps : (program : List NumProc) (ctx : Ctx) (o : Option ℤ) (g n : ℕ) (v : ℤ) (s : State) → P s → ProgressHas P (run_part program ctx o g n v s)
   part_keeps program ctx (Some w) g n v s p = p
@@ -246,7 +246,7 @@ module _ (P : State → Type 0) (k : Kept P) where
   choice_keeps program ctx (ForAny ds r) s p = filled_if_keeps r (first_number ds s) s p
   choice_keeps program ctx (ForChoice choices vals r) s p = call_if_keeps program ctx (first_call choices vals r s) s p
   choice_keeps program ctx (ForAll c) s p = p
-  choice_keeps program ctx (ForGuard ctx' c) s p = p
+  choice_keeps program ctx (ForGuard ctx' m kind c) s p = p
 
   if_progress : (b : Bool) (x y : Progress) → ProgressHas P x → ProgressHas P y → ProgressHas P (if b then x else y)
   if_progress true x y p q = p

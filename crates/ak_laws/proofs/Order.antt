@@ -45,6 +45,7 @@ quiet_follows limit (entry.Join r i) w q = refl
 quiet_follows limit (entry.Print z) w q = refl
 quiet_follows limit (entry.Monitor m p) w q = refl
 quiet_follows limit (entry.Detach m) w q = refl
+quiet_follows limit (entry.Attach m) w q = refl
 quiet_follows limit (entry.Error e m) w q = refl
 quiet_follows limit (entry.Caught m) w q = refl
 quiet_follows limit (entry.Rest e) w q = refl
