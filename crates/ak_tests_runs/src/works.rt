@@ -224,16 +224,16 @@ fn are_squares(arrived: &[(WorkNo, Outcome)], works: i64) -> bool {
 #[test]
 fn threads_carry_the_works(rt: HostRuntime) -> Result<(), Fail> {
     let alloc = rt.alloc();
-    let mut works = Vec::new(alloc);
-    for num in 0..200 {
-        works.push(Work {
-            kind: WorkKind::Square,
-            num,
-        })?;
+    let mut works = [Work {
+        kind: WorkKind::Square,
+        num: 0,
+    }; 200];
+    for (num, work) in works.iter_mut().enumerate() {
+        work.num = num as i64;
     }
     for threads in [1u32, 2, 4] {
         let hands = plain_hands(alloc, threads)?;
-        let served = serve(&rt, alloc, threads, hands, works.as_slice())?;
+        let served = serve(&rt, alloc, threads, hands, &works)?;
         assert_eq!(rt; served.arrived.len(), 200);
         assert!(rt; are_squares(served.arrived.as_slice(), 200));
         assert_eq!(rt; served.hands, threads as usize);
