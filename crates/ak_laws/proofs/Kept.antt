@@ -1,29 +1,24 @@
 -- What the small changes of a state keep, each operation keeps.
 use Rattle.std.proofs.Common.{ℕ, ℤ, ◌≡◌, List, [], ◌∷◌, Bool, true, false, Option, Some, None, refl, fold}
-use Rattle.std.specs.Prelude.{pos, filter, length, map, if◌then◌else◌, ◌==◌, ◌+◌}
+use Rattle.std.specs.Prelude.{pos, length, map, if◌then◌else◌, ◌==◌, ◌+◌}
 use Rattle.ak_base.specs.declared.number.Ctx.{Ctx}
 use Rattle.ak_labor.specs.declared.work.Work.{Work}
-use Rattle.ak_cells.specs.declared.registration.Registration.{Registration}
-use Rattle.ak_cells.specs.Cells.{waiting_on, filled}
-use Rattle.ak_rings.specs.Queues.{recounted}
+use Rattle.ak_cells.specs.Cells.{waiting_on}
 use Rattle.ak_monitor.specs.Monitors.{monitor_in, catcher, path, up_to}
-use Rattle.ak_choice.specs.Groups as groups
 use Rattle.ak_script.specs.declared.statement.GuardMode.{GuardMode}
 use Rattle.ak_script.specs.declared.statement.GuardMode.TheVariants as mode
 use Rattle.ak_clock.specs.declared.alarm.Alarm.{Alarm}
 use Rattle.ak_clock.specs.Clock as clock
-use Rattle.ak_throttle.specs.declared.stage.Mark.{Mark}
 use Rattle.ak_throttle.specs.declared.answer.Enqueued.{Enqueued}
 use Rattle.ak_throttle.specs.declared.answer.Enqueued.TheVariants as placed
 use Rattle.ak_throttle.specs.Throttle as throttle
-use Rattle.ak_pipe.specs.declared.flush.Flush.{Flush}
 use Rattle.ak_pipe.specs.declared.answer.Got.{Got}
 use Rattle.ak_pipe.specs.declared.answer.Got.TheVariants.{Item, Eof, Waits}
 use Rattle.ak_pipe.specs.Pipe as pipe
 use Rattle.ak_frames.specs.declared.value.Value.{Value}
 use Rattle.ak_frames.specs.declared.value.Value.TheVariants.{Num}
 use Rattle.ak_frames.specs.declared.frame.Ret.{Ret}
-use Rattle.ak_frames.specs.declared.frame.Ret.TheVariants.{Drop, To, TryBody, ThrottleBody}
+use Rattle.ak_frames.specs.declared.frame.Ret.TheVariants.{To, TryBody, ThrottleBody}
 use Rattle.ak_frames.specs.declared.frame.Frame.{Frame}
 use Rattle.ak_frames.specs.declared.frame.Frame.TheVariants.{AllPart, ChoicePart, TryDone, BodyDone}
 use Rattle.ak_frames.specs.declared.frame.Task.{Task}
@@ -46,14 +41,13 @@ use Rattle.ak_machine.specs.declared.held.Fate.TheVariants.{Undecided, Failing, 
 use Rattle.ak_machine.specs.declared.held.Read.{Read}
 use Rattle.ak_machine.specs.State.{State}
 use Rattle.ak_machine.specs.Mapped.{state_renamed}
-use Rattle.ak_machine.specs.Deferred as deferred
 use Rattle.ak_machine.specs.Deferred.{noting, enqueue, called, number_at, fill, fill_at, fill_empty, filled_with, filled_where, woken_by, register, register_at, connect, connect_at}
 use Rattle.ak_machine.specs.Monitors as monitors
 use Rattle.ak_machine.specs.Groups as group
 use Rattle.ak_machine.specs.Throttles as throttles
 use Rattle.ak_machine.specs.Pipes as pipes
 use Rattle.ak_machine.specs.Alarms as alarms
-use Rattle.ak_machine.specs.Errors.{After, going_on, stopped, next_errors_filled, acted, handler_acts, handled, caught_at, send}
+use Rattle.ak_machine.specs.Errors.{stopped, next_errors_filled, acted, handler_acts, handled, caught_at, send}
 use Rattle.ak_machine.specs.Works as works
 
 -- an entry that says nothing of jobs, of cycles or of the end

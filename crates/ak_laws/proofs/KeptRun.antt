@@ -1,11 +1,10 @@
 -- What the small changes of a state keep, a whole run keeps.
-use Rattle.std.proofs.Common.{ℕ, ℤ, ◌≡◌, List, [], ◌∷◌, ◌++◌, Bool, true, false, Option, Some, None, refl, sym, subst, fold}
-use Rattle.std.specs.Prelude.{pos, filter, find, length, map, nat_le, Result, Ok, Err, ◌+ℤ◌, ◌+◌, if◌then◌else◌, slice_index_or}
+use Rattle.std.proofs.Common.{ℕ, ℤ, ◌≡◌, List, [], ◌∷◌, Bool, true, false, Option, Some, None, refl, sym, subst, fold}
+use Rattle.std.specs.Prelude.{pos, filter, find, length, map, nat_le, Result, Ok, Err, ◌+ℤ◌, if◌then◌else◌}
 use Rattle.ak_base.specs.Lists.{is_empty_list}
 use Rattle.ak_base.specs.declared.number.Ctx.{Ctx}
 use Rattle.ak_labor.specs.declared.ask.Ask.{Ask}
 use Rattle.ak_labor.specs.declared.ask.Ask.TheVariants as ask
-use Rattle.ak_labor.specs.declared.work.Work.{Work}
 use Rattle.ak_labor.specs.declared.work.WorkKind.{WorkKind}
 use Rattle.ak_labor.specs.declared.work.Outcome.{Outcome}
 use Rattle.ak_labor.specs.declared.work.Outcome.TheVariants.{Good, Bad}
@@ -19,7 +18,6 @@ use Rattle.ak_frames.specs.declared.frame.Ret.TheVariants.{Drop, To, TryBody, Th
 use Rattle.ak_frames.specs.declared.frame.Frame.{Frame}
 use Rattle.ak_frames.specs.declared.frame.Frame.TheVariants as frame
 use Rattle.ak_frames.specs.declared.frame.Task.{Task}
-use Rattle.ak_trace.specs.declared.entry.Entry.{Entry}
 use Rattle.ak_trace.specs.declared.entry.Entry.TheVariants as entry
 use Rattle.ak_trace.specs.declared.entry.Ending.{Ending}
 use Rattle.ak_trace.specs.declared.entry.Ending.TheVariants as ending
@@ -39,19 +37,18 @@ use Rattle.ak_machine.specs.declared.held.Purpose.{Purpose}
 use Rattle.ak_machine.specs.declared.held.Purpose.TheVariants.{ForAll, ForAny, ForChoice, ForGuard}
 use Rattle.ak_machine.specs.State.{State, initial_state}
 use Rattle.ak_machine.specs.Number.{Computed, Gives, Overflows, DividesByZero, computed}
-use Rattle.ak_machine.specs.Deferred.{noting, called, number_at, fill, register, is_empty, with_ivar}
+use Rattle.ak_machine.specs.Deferred.{noting, is_empty, with_ivar}
 use Rattle.ak_machine.specs.Groups.{group_at, purpose_at, part_at, part_set, all_call, choice_decided, first_number, first_call}
 use Rattle.ak_machine.specs.Throttles.{throttle_at, body_failed}
 use Rattle.ak_machine.specs.Pipes.{pipe_at}
 use Rattle.ak_machine.specs.Errors.{After, going_on, stopped, send}
 use Rattle.ak_machine.specs.Works.{is_active, helper_at, with_helper}
 use Rattle.ak_machine.specs.Effect.{Effect, Goes, Raises, Returns, Stops, Ends, Asks, name_in, number_in, args_of, call_to_fresh, holds}
-use Rattle.ak_machine.specs.Statement.{choosable, set_effect, work_effect, sent_effect, alarm_effect, tick_effect, effect_of, line_effect}
-use Rattle.ak_machine.specs.Job as job
-use Rattle.ak_machine.specs.Job.{Rest, Progress, Over, Asking, returned, number_returned, deferred_returned, run_lines, run_call, run_call_if, run_all_part, run_part, run_choice, run_frame, run_job, filled_if, lines_of}
+use Rattle.ak_machine.specs.Statement.{choosable, set_effect, work_effect, sent_effect, tick_effect, effect_of, line_effect}
+use Rattle.ak_machine.specs.Job.{Rest, Progress, Over, Asking, returned, number_returned, deferred_returned, run_lines, run_call_if, run_all_part, run_part, run_choice, run_frame, filled_if, lines_of}
 use Rattle.ak_machine.specs.Cycle.{cycle_begun, has_more, is_stuck, outcome_given, arrival_of, arrive, arrive_all, is_work, is_other_work}
 use Rattle.ak_machine.specs.Run.{Place, AtDrain, AtJob, AtClose, Ended as HasClosed, Wrong, Machine, went, progressed, cycle_ended, picked, drained, gone_on, job_answered, stepped_at, stepped, begun, machine_after}
-use Rattle.ak_laws.proofs.Kept.{Kept, Ended, AfterHas, if_keeps, called_keeps, fill_keeps, register_keeps, connect_keeps, with_monitor_keeps, detach_keeps, all_begun_keeps, any_begun_keeps, choice_begun_keeps, try_begun_keeps, try_done_keeps, try_waits_keeps, body_enqueued_keeps, done_awaited_keeps, body_ended_keeps, body_waits_keeps, body_failed_keeps, put_keeps, write_keeps, read_keeps, close_keeps, close_read_keeps, flushed_keeps, abort_keeps, yields_filled_keeps, alarms_filled_keeps, send_keeps, stopped_keeps, submitted_keeps, with_helper_keeps}
+use Rattle.ak_laws.proofs.Kept.{Kept, Ended, AfterHas, called_keeps, fill_keeps, register_keeps, connect_keeps, with_monitor_keeps, detach_keeps, all_begun_keeps, any_begun_keeps, choice_begun_keeps, try_begun_keeps, try_done_keeps, try_waits_keeps, body_enqueued_keeps, done_awaited_keeps, body_ended_keeps, body_waits_keeps, body_failed_keeps, put_keeps, write_keeps, read_keeps, close_keeps, close_read_keeps, flushed_keeps, abort_keeps, yields_filled_keeps, alarms_filled_keeps, send_keeps, stopped_keeps, submitted_keeps, with_helper_keeps}
 
 -- what a statement leaves
 abbrev pub EffectHas : (P : State → Type 0) → Effect → Type 0
