@@ -6,3 +6,4 @@ pub mod Once
 pub mod Behind
 pub mod Named
 pub mod OnceRun
+pub mod Jobs

@@ -1,3 +1,5 @@
 pub mod Ends
 pub mod Fills
+pub mod Jobs
 pub mod Order
+pub mod Places

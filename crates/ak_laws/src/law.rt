@@ -9,6 +9,7 @@ ghost use Rattle.ak_machine.specs.Run.{HasEnded, run_of};
 ghost use Rattle.ak_exec.specs.Built.{AreBuilt};
 ghost use Rattle.ak_laws.specs.Ends.{EndsOnce};
 ghost use Rattle.ak_laws.specs.Order.{IsInOrder};
+ghost use Rattle.ak_laws.specs.Jobs.{JobsInOrder, CyclesAreLimited};
 ghost use Rattle.ak_laws.specs.Fills.{FilledOnce, GoneOnceJoined, UnjoinedOnceFilled};
 
 /// The trace of every run that has ended has its end once, as the last entry. Own.
@@ -26,6 +27,21 @@ pub fn runs_in_order()
     ensures { (program : List NumProc) (main : ℕ) (config : Config) (replies : List Reply)
         → (run_of program main config replies).outcome ≡ HasEnded
         → IsInOrder config.limit (run_of program main config replies).trace }
+{}
+
+/// The jobs of every run that has ended are numbered from 0 as they are enqueued, run once they are, and run in that order among
+/// those of their priority. From Async's scheduler in outline.
+pub fn jobs_in_order()
+    ensures { (program : List NumProc) (main : ℕ) (config : Config) (replies : List Reply)
+        → (run_of program main config replies).outcome ≡ HasEnded → JobsInOrder (run_of program main config replies).trace }
+{}
+
+/// In each cycle of every run that has ended at most so many jobs of each priority run as the settings say, and a low one only
+/// where each normal one that was enqueued ran, or as many normal ones as may ran in this cycle. Own.
+pub fn cycles_are_limited()
+    ensures { (program : List NumProc) (main : ℕ) (config : Config) (replies : List Reply)
+        → (run_of program main config replies).outcome ≡ HasEnded
+        → CyclesAreLimited config.limit (run_of program main config replies).trace }
 {}
 
 /// An ivar is filled at most once in every run that has ended, of a program whose statements are built. From Async's
