@@ -1,5 +1,6 @@
 pub mod Ends
 pub mod Fills
 pub mod Jobs
+pub mod Laws
 pub mod Order
 pub mod Places
