@@ -9,6 +9,7 @@ ghost use Rattle.ak_machine.specs.Run.{run_of};
 ghost use Rattle.ak_machine.specs.Status.{status_of};
 ghost use Rattle.ak_program.specs.Programs.{NumProgram};
 ghost use Rattle.ak_exec.specs.Built.{AreBuilt};
+ghost use Rattle.ak_laws.specs.Laws.{ObeysLaws};
 ghost use Rattle.ak_cycle.specs.Runs.{HasEndedWith, WantsLast, WantsNext, IsNoMemory, EndsIdle, EndsClosed};
 ghost use Rattle.ak_cycle.specs.Turns.{IsAt, IsFinished, turns_left};
 
@@ -16,6 +17,7 @@ use crate::turn::advance;
 use ak_exec::world::{World, begin_cycle, trace};
 use ak_labor::port::{Port, PortError};
 use ak_labor::work::Arrivals;
+use ak_laws::law::obeys_laws;
 use ak_machine::config::Config;
 use ak_program::program::Program;
 use ak_trace::entry::Trace;
@@ -27,6 +29,7 @@ use std::alloc::Global;
 ///
 /// On `Ok` the trace is the machine's for the port's replies, the machine has ended, and what the port was asked is
 /// what the machine asks, with its waits; the last call is the close. Where the trace ends idle, a reply has brought each work that was handed in.
+/// The trace obeys the laws of traces that are proved.
 ///
 /// # Errors
 ///
@@ -49,11 +52,15 @@ pub fn run<P: Port>(
     ensures ended { IfOk result (λ trace. HasEndedWith (run_of program.procs program.main config (P.replies port.new)) trace (P.asked port.new) (P.waits port.new)) }
     ensures finished { IfOk result (λ trace. IsFinished (status_of trace)) }
     ensures idle { IfOk result (λ trace. EndsIdle trace → outstanding (P.asked port.new) (P.replies port.new) ≡ []) }
+    ensures laws { IfOk result (λ trace. ObeysLaws config.limit trace) }
     ensures closed { OnOk result (EndsClosed (P.asked port.new)) }
     ensures threads { P.threads port.new ≡ P.threads port.old }
     ensures fault { IsFault result → WantsLast (run_of program.procs program.main config (P.replies port.new)) (P.asked port.new) (P.replies port.new) (P.waits port.new) }
     ensures memory { IsNoMemory result → WantsNext (run_of program.procs program.main config (P.replies port.new)) (P.asked port.new) (P.replies port.new) (P.waits port.new) }
 {
+    // For the proof alone: the program is sound, and so its runs obey the laws.
+    let _main = program.main();
+    obeys_laws();
     let mut world = World::make(alloc, program, config)?;
     begin_cycle(&mut world)?;
     let mut on = true;

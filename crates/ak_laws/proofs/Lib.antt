@@ -7,3 +7,4 @@ pub mod Behind
 pub mod Named
 pub mod OnceRun
 pub mod Jobs
+pub mod Laws

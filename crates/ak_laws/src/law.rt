@@ -11,6 +11,7 @@ ghost use Rattle.ak_laws.specs.Ends.{EndsOnce};
 ghost use Rattle.ak_laws.specs.Order.{IsInOrder};
 ghost use Rattle.ak_laws.specs.Jobs.{JobsInOrder, CyclesAreLimited};
 ghost use Rattle.ak_laws.specs.Fills.{FilledOnce, GoneOnceJoined, UnjoinedOnceFilled};
+ghost use Rattle.ak_laws.specs.Laws.{ObeysLaws};
 
 /// The trace of every run that has ended has its end once, as the last entry. Own.
 #[tactic(auto, using(crate::proofs::Ends::ends_once))]
@@ -66,4 +67,11 @@ pub fn joined_name_is_gone()
     ensures { (program : List NumProc) (main : ℕ) → ProgramIsSound program main → AreBuilt program
         → (config : Config) (replies : List Reply) → (run_of program main config replies).outcome ≡ HasEnded
         → GoneOnceJoined (run_of program main config replies).trace }
+{}
+
+/// The trace of every run that has ended, of a program whose statements are built, obeys all these laws. Own.
+pub fn obeys_laws()
+    ensures { (program : List NumProc) (main : ℕ) → ProgramIsSound program main → AreBuilt program
+        → (config : Config) (replies : List Reply) → (run_of program main config replies).outcome ≡ HasEnded
+        → ObeysLaws config.limit (run_of program main config replies).trace }
 {}

@@ -4,9 +4,10 @@ use Rattle.ak_labor.proofs.Faults.{IsAsked-fault}
 use Rattle.ak_machine.specs.Run.{run_of}
 use Rattle.ak_machine.specs.declared.config.Config.{Config}
 use Rattle.ak_program.specs.Programs.{NumProgram}
+use Rattle.ak_laws.specs.Laws.{ObeysLaws}
 use Rattle.ak_cycle.specs.Runs.{WantsLast, WantsNext, IsNoMemory}
 use Rattle.ak_cycle.specs.Turns.{IsAt}
-use Rattle.ak_cycle.proofs.Under.{wants_close, wants_unasked, unasked, none_out_closed}
+use Rattle.ak_cycle.proofs.Under.{closed, wants_close, wants_unasked, unasked, none_out_closed}
 use Rattle.ak_cycle.proofs.cycle.run.Goals as goal
 
 pub returns-in_err-on-clause-fault : goal.returns-in_err-on-clause-fault
@@ -44,3 +45,13 @@ returns-clause-idle g c = λ ends.
 
 pub returns-clause-closed : goal.returns-clause-closed
 returns-clause-closed g c = (g.P.Port.asked c.loop-on.port, c.in_ok-close.ensures.asked.0)
+
+pub returns-clause-laws : goal.returns-clause-laws
+returns-clause-laws g c =
+    let off : c.loop-on.on ≡ false = c.loop-on-test.false
+    in let ended =
+    closed c.args.program c.args.config c.loop-on.world c.trace.result _ _ _ _ _ _
+    (subst (λ b. IsAt b c.args.program c.args.config c.loop-on.world (g.P.Port.asked c.loop-on.port) (g.P.Port.replies c.loop-on.port) (g.P.Port.waits c.loop-on.port)) off c.loop-on.invariant.at)
+    c.trace.ensures c.in_ok-close.ensures.asked.0 c.in_ok-close.ensures.asked.1 c.close.ensures.waits
+    in subst (ObeysLaws c.args.config.limit) ended.trace_is
+    (c.obeys_laws.ensures c.args.program.procs c.args.program.main c.main-main.ensures.sound c.requires.built c.args.config (g.P.Port.replies c.close.new.self) ended.ended)
