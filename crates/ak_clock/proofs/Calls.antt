@@ -7,7 +7,8 @@ use Rattle.std.proofs.lemmas.Int.{ints}
 use Rattle.std.proofs.lemmas.List.Elements.{All-nil, All-cons, All-head, All-tail, All-filter, All-weaker}
 use Rattle.ak_base.specs.Lists.{first_of, is_empty_list}
 use Rattle.ak_clock.specs.declared.alarm.Alarm.{Alarm}
-use Rattle.ak_clock.specs.Clock.{Clock, is_alarm, is_other_alarm, is_due, is_early, by_time, due_alarms, due_taken, ivar_of, without_this, without_alarm, without_due, without_yields}
+use Rattle.ak_clock.specs.Clock.{Clock, is_alarm, is_other_alarm, is_due, is_early, by_time, due_alarms, due_taken, ivar_of}
+use Rattle.ak_clock.specs.Clock.{without_this, without_alarm, without_due, without_yields}
 use Rattle.ak_clock.specs.Calls.{Give, DueGives, due_given, due_ivars, YieldsGiven, yield_given}
 use Rattle.ak_clock.specs.Order.{AreNumbered, IsBefore, AreByTime}
 use Rattle.ak_clock.proofs.Numbered.{IsFound, each_found}
