@@ -1,3 +1,4 @@
+pub mod Calls
 pub mod Decided
 pub mod Notes
 pub mod Parts

@@ -1,7 +1,8 @@
 //! Laws of groups. Each function has an empty body: its contract is the law.
 
-ghost use Rattle.std.specs.Prelude.{ℕ, ℤ, ◌≡◌, ◌≤◌, ◌++◌, List, Some};
-ghost use Rattle.ak_choice.specs.Groups.{Group, group_in, part_in};
+ghost use Rattle.std.specs.Prelude.{ℕ, ℤ, ◌≡◌, ◌≤◌, ◌++◌, ◌↔◌, List, Some};
+ghost use Rattle.ak_choice.specs.Calls.{NotesGiven};
+ghost use Rattle.ak_choice.specs.Groups.{Group, group_in, part_in, without_notes};
 ghost use Rattle.ak_choice.specs.Runs.{Call, AreAllowed, AreOfGroups, after, decisions, noted, taken};
 
 /// Whatever is called, a group is decided at most once: so at most one choice of it runs.
@@ -23,4 +24,12 @@ pub fn part_keeps_its_number()
 pub fn group_keeps_its_notes()
     ensures { (g : ℕ) (calls : List Call) (groups : List Group) → AreOfGroups calls groups
         → taken g calls groups ++ (group_in (after calls groups) g).notes ≡ (group_in groups g).notes ++ noted g calls }
+{}
+
+/// Calls of `next_note`, made until one finds none, give exactly the registrations that were noted for the group, the oldest
+/// first, and leave none: what a choice takes at once as it is decided.
+#[tactic(auto, using(crate::proofs::Calls::notes_exactly))]
+pub fn notes_one_at_a_time_are_all_that_were_noted()
+    ensures { (g : ℕ) (registrations : List ℕ) (groups after : List Group) → NotesGiven g registrations groups after
+        ↔ ((registrations ≡ (group_in groups g).notes) × (after ≡ without_notes g groups)) }
 {}

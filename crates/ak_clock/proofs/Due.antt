@@ -70,7 +70,8 @@ is_not_later a b q =
 before_older : (b a : Alarm) → b.time ≤ℤ a.time → b.no < a.no → IsBefore b a
 before_older b a p q = by_lt_z b.time a.time (λ l. inl l) (λ g. inr (same_from b.time a.time p g, q))
 
-all_inserted_by : (t : Bool) (P : Alarm → Type 0) (a b : Alarm) (xs : List Alarm) → P a → All P (b ∷ xs) → All P (insert_alarm a xs) → All P (cond t (a ∷ b ∷ xs) (b ∷ insert_alarm a xs))
+all_inserted_by : (t : Bool) (P : Alarm → Type 0) (a b : Alarm) (xs : List Alarm) → P a → All P (b ∷ xs) → All P (insert_alarm a xs)
+    → All P (cond t (a ∷ b ∷ xs) (b ∷ insert_alarm a xs))
 all_inserted_by true P a b xs p h r = All-cons P a (b ∷ xs) p h
 all_inserted_by false P a b xs p h r = All-cons P b (insert_alarm a xs) (h 0 b (omega arith)) r
 
@@ -78,7 +79,8 @@ all_inserted : (P : Alarm → Type 0) (a : Alarm) (xs : List Alarm) → P a → 
 all_inserted P a [] p h = All-cons P a [] p h
 all_inserted P a (b ∷ xs) p h = all_inserted_by (int_lt a.time b.time) P a b xs p h (all_inserted P a xs p (All-tail P b xs h))
 
-sorted_by : (t : Bool) (a b : Alarm) (xs : List Alarm) → int_lt a.time b.time ≡ t → AreByTime (b ∷ xs) → AreBelow a.no (b ∷ xs) → AreByTime (insert_alarm a xs) → AreByTime (cond t (a ∷ b ∷ xs) (b ∷ insert_alarm a xs))
+sorted_by : (t : Bool) (a b : Alarm) (xs : List Alarm) → int_lt a.time b.time ≡ t → AreByTime (b ∷ xs) → AreBelow a.no (b ∷ xs)
+    → AreByTime (insert_alarm a xs) → AreByTime (cond t (a ∷ b ∷ xs) (b ∷ insert_alarm a xs))
 sorted_by true a b xs e s l r =
     let less : a.time <ℤ b.time = lt_from a.time b.time e
     in (All-cons (IsBefore a) b xs (inl less) (All-weaker (IsBefore b) (IsBefore a) (λ c. before_behind a b c less) xs s.0), s)
@@ -91,7 +93,8 @@ sorted_inserted a (b ∷ xs) s l =
     sorted_by (int_lt a.time b.time) a b xs refl s l (sorted_inserted a xs s.1 (All-tail (λ (x : Alarm). x.no < a.no) b xs l))
 
 -- one more alarm, newer than all that are in order, is put among them
-put_in_order : (low : ℕ) (y : Alarm) (acc : List Alarm) → low ≤ y.no → AreByTime acc → AreBelow low acc → AreByTime (insert_alarm y acc) × AreBelow (y.no + 1) (insert_alarm y acc)
+put_in_order : (low : ℕ) (y : Alarm) (acc : List Alarm) → low ≤ y.no → AreByTime acc → AreBelow low acc
+    → AreByTime (insert_alarm y acc) × AreBelow (y.no + 1) (insert_alarm y acc)
 put_in_order low y acc n s l = (
   sorted_inserted y acc s (λ k d h. omega (arith, l k d h, n)),
   all_inserted (λ (x : Alarm). x.no < y.no + 1) y acc (omega arith) (λ k d h. omega (arith, l k d h, n)),
@@ -106,7 +109,8 @@ sorted_from low high acc (y ∷ ys) n s l =
 pub sorted : (high : ℕ) (xs : List Alarm) → AreNumbered 0 high xs → AreByTime (by_time xs)
 sorted high xs n = sorted_from 0 high [] xs n tt (All-nil (λ (x : Alarm). x.no < 0))
 
-numbered_kept : (t : Bool) (low high : ℕ) (x : Alarm) (ys : List Alarm) → low ≤ x.no → x.no < high → AreNumbered (x.no + 1) high ys → AreNumbered low high (cond t (x ∷ ys) ys)
+numbered_kept : (t : Bool) (low high : ℕ) (x : Alarm) (ys : List Alarm) → low ≤ x.no → x.no < high → AreNumbered (x.no + 1) high ys
+    → AreNumbered low high (cond t (x ∷ ys) ys)
 numbered_kept true low high x ys p q a = (p, q, a)
 numbered_kept false low high x ys p q a = lowered low (x.no + 1) high ys (omega (arith, p)) a
 
@@ -116,7 +120,8 @@ numbered_filtered p low high (x ∷ xs) a = numbered_kept (p x) low high x (filt
 
 -- due alarms come in order of time and then of number
 pub due_in_order : (c : Clock) (low high : ℕ) → AreNumbered low high c.alarms → AreByTime (due_alarms c)
-due_in_order c low high a = sorted_from low high [] (filter (is_due c.time) c.alarms) (numbered_filtered (is_due c.time) low high c.alarms a) tt (All-nil (λ (x : Alarm). x.no < low))
+due_in_order c low high a = sorted_from low high [] (filter (is_due c.time) c.alarms) (numbered_filtered (is_due c.time) low high c.alarms a) tt
+    (All-nil (λ (x : Alarm). x.no < low))
 
 -- what holds of all alarms holds of them in order of time
 all_from : (P : Alarm → Type 0) (acc ys : List Alarm) → All P acc → All P ys → All P (fold inserted acc ys)
@@ -141,12 +146,14 @@ earlier_than a b c p q =
       | inr e ↦ subst (λ (t : ℤ). a.time <ℤ t) e.0 p
     ]
 
-filtered_behind : (u v : Bool) (a b : Alarm) (xs ys : List Alarm) → int_lt a.time b.time ≡ false → ys ≡ cond v (insert_alarm a xs) xs → cond u (b ∷ ys) ys ≡ cond v (insert_alarm a (cond u (b ∷ xs) xs)) (cond u (b ∷ xs) xs)
+filtered_behind : (u v : Bool) (a b : Alarm) (xs ys : List Alarm) → int_lt a.time b.time ≡ false → ys ≡ cond v (insert_alarm a xs) xs
+    → cond u (b ∷ ys) ys ≡ cond v (insert_alarm a (cond u (b ∷ xs) xs)) (cond u (b ∷ xs) xs)
 filtered_behind true true a b xs ys e h = ap (λ zs. b ∷ zs) h ∙ sym (ap (λ t. cond t (a ∷ b ∷ xs) (b ∷ insert_alarm a xs)) e)
 filtered_behind true false a b xs ys e h = ap (λ zs. b ∷ zs) h
 filtered_behind false v a b xs ys e h = h
 
-filtered_by : (t : Bool) (p : Alarm → Bool) (a b : Alarm) (xs : List Alarm) → int_lt a.time b.time ≡ t → AreByTime (b ∷ xs) → filter p (insert_alarm a xs) ≡ cond (p a) (insert_alarm a (filter p xs)) (filter p xs)
+filtered_by : (t : Bool) (p : Alarm → Bool) (a b : Alarm) (xs : List Alarm) → int_lt a.time b.time ≡ t → AreByTime (b ∷ xs)
+    → filter p (insert_alarm a xs) ≡ cond (p a) (insert_alarm a (filter p xs)) (filter p xs)
     → filter p (cond t (a ∷ b ∷ xs) (b ∷ insert_alarm a xs)) ≡ cond (p a) (insert_alarm a (filter p (b ∷ xs))) (filter p (b ∷ xs))
 filtered_by true p a b xs e s h =
     let later : Alarm → Type 0 = λ c. a.time <ℤ c.time
@@ -155,7 +162,8 @@ filtered_by true p a b xs e s h =
     in ap (λ zs. cond (p a) zs (filter p (b ∷ xs))) (sym (goes_first a (filter p (b ∷ xs)) (All-filter p later (b ∷ xs) all)))
 filtered_by false p a b xs e s h = filtered_behind (p b) (p a) a b (filter p xs) (filter p (insert_alarm a xs)) e h
 
-filtered_inserted : (p : Alarm → Bool) (a : Alarm) (xs : List Alarm) → AreByTime xs → filter p (insert_alarm a xs) ≡ cond (p a) (insert_alarm a (filter p xs)) (filter p xs)
+filtered_inserted : (p : Alarm → Bool) (a : Alarm) (xs : List Alarm) → AreByTime xs
+    → filter p (insert_alarm a xs) ≡ cond (p a) (insert_alarm a (filter p xs)) (filter p xs)
 filtered_inserted p a [] s = refl
 filtered_inserted p a (b ∷ xs) s = filtered_by (int_lt a.time b.time) p a b xs refl s (filtered_inserted p a xs s.1)
 
@@ -163,7 +171,8 @@ put_or_not : (t : Bool) (y : Alarm) (acc ys : List Alarm) → fold inserted (con
 put_or_not true y acc ys = refl
 put_or_not false y acc ys = refl
 
-filtered_from : (p : Alarm → Bool) (low high : ℕ) (acc ys : List Alarm) → AreNumbered low high ys → AreByTime acc → AreBelow low acc → filter p (fold inserted acc ys) ≡ fold inserted (filter p acc) (filter p ys)
+filtered_from : (p : Alarm → Bool) (low high : ℕ) (acc ys : List Alarm) → AreNumbered low high ys → AreByTime acc → AreBelow low acc
+    → filter p (fold inserted acc ys) ≡ fold inserted (filter p acc) (filter p ys)
 filtered_from p low high acc [] n s l = refl
 filtered_from p low high acc (y ∷ ys) n s l =
     let put = put_in_order low y acc n.0 s l

@@ -50,30 +50,37 @@ same_place a place e = cc
 no_place : (place : ℤ × ℕ) → None ≡ Some place → ⊥
 no_place place e = cc
 
-due_by : (alarms : List Alarm) (c : Clock) (high : ℕ) (place : ℤ × ℕ) → by_time c.alarms ≡ alarms → AreNumbered 0 high c.alarms → slice_get (map place_of alarms) 0 ≡ Some place → place.0 ≤ℤ c.time → IsDueFirst place.1 c
+due_by : (alarms : List Alarm) (c : Clock) (high : ℕ) (place : ℤ × ℕ) → by_time c.alarms ≡ alarms → AreNumbered 0 high c.alarms
+    → slice_get (map place_of alarms) 0 ≡ Some place → place.0 ≤ℤ c.time → IsDueFirst place.1 c
 due_by [] c high place e n g l = absurd (no_place place g)
 due_by (a ∷ alarms) c high place e n g l =
     let same : place_of a ≡ place = same_place a place g
     in let due : is_due c.time a ≡ true = le_true a.time c.time (subst (λ (p : ℤ × ℕ). p.0 ≤ℤ c.time) (sym same) l)
     in let front : first_of (due_alarms c) ≡ Some a = ap first_of (due_first c high n ∙ ap (filter (is_due c.time)) e)
     ∙ ap (λ t. first_of (cond t (a ∷ filter (is_due c.time) alarms) (filter (is_due c.time) alarms))) due
-    in let found : find (is_alarm a.no) c.alarms ≡ Some a = All-head (IsFound c.alarms) a alarms (subst (All (IsFound c.alarms)) e (all_by_time (IsFound c.alarms) c.alarms (each_found 0 high c.alarms n)))
+    in let found : find (is_alarm a.no) c.alarms ≡ Some a =
+    All-head (IsFound c.alarms) a alarms (subst (All (IsFound c.alarms)) e (all_by_time (IsFound c.alarms) c.alarms (each_found 0 high c.alarms n)))
     in (ap (λ (p : ℤ × ℕ). alarm_of p.1 c) (sym same) ∙ found ∙ sym front, sym (ap is_some front) ∙ has_due_same c)
 
-pub first_is_due : (c : Clock) (high : ℕ) (place : ℤ × ℕ) → AreNumbered 0 high c.alarms → slice_get (map place_of (by_time c.alarms)) 0 ≡ Some place → place.0 ≤ℤ c.time → IsDueFirst place.1 c
+pub first_is_due : (c : Clock) (high : ℕ) (place : ℤ × ℕ) → AreNumbered 0 high c.alarms → slice_get (map place_of (by_time c.alarms)) 0 ≡ Some place
+    → place.0 ≤ℤ c.time → IsDueFirst place.1 c
 first_is_due c high place = due_by (by_time c.alarms) c high place refl
 
-early_by : (alarms : List Alarm) (c : Clock) (high : ℕ) (place : ℤ × ℕ) → by_time c.alarms ≡ alarms → AreNumbered 0 high c.alarms → slice_get (map place_of alarms) 0 ≡ Some place → c.time <ℤ place.0 → NoneDue c
+early_by : (alarms : List Alarm) (c : Clock) (high : ℕ) (place : ℤ × ℕ) → by_time c.alarms ≡ alarms → AreNumbered 0 high c.alarms
+    → slice_get (map place_of alarms) 0 ≡ Some place → c.time <ℤ place.0 → NoneDue c
 early_by [] c high place e n g l = absurd (no_place place g)
 early_by (a ∷ alarms) c high place e n g l =
     let same : place_of a ≡ place = same_place a place g
     in let later : c.time <ℤ a.time = subst (λ (p : ℤ × ℕ). c.time <ℤ p.0) (sym same) l
-    in none_from c (due_first c high n ∙ ap (filter (is_due c.time)) e ∙ none_due c.time (a ∷ alarms) (all_early c.time a alarms (subst AreByTime e (sorted high c.alarms n)) later))
+    in none_from c (due_first c high n ∙ ap (filter (is_due c.time)) e
+    ∙ none_due c.time (a ∷ alarms) (all_early c.time a alarms (subst AreByTime e (sorted high c.alarms n)) later))
 
-pub first_is_early : (c : Clock) (high : ℕ) (place : ℤ × ℕ) → AreNumbered 0 high c.alarms → slice_get (map place_of (by_time c.alarms)) 0 ≡ Some place → c.time <ℤ place.0 → NoneDue c
+pub first_is_early : (c : Clock) (high : ℕ) (place : ℤ × ℕ) → AreNumbered 0 high c.alarms
+    → slice_get (map place_of (by_time c.alarms)) 0 ≡ Some place → c.time <ℤ place.0 → NoneDue c
 first_is_early c high place = early_by (by_time c.alarms) c high place refl
 
-no_first_by : (alarms : List Alarm) (c : Clock) (high : ℕ) → by_time c.alarms ≡ alarms → AreNumbered 0 high c.alarms → (0 < length (map place_of alarms) → ⊥) → NoneDue c
+no_first_by : (alarms : List Alarm) (c : Clock) (high : ℕ) → by_time c.alarms ≡ alarms → AreNumbered 0 high c.alarms
+    → (0 < length (map place_of alarms) → ⊥) → NoneDue c
 no_first_by [] c high e n h = none_from c (due_first c high n ∙ ap (filter (is_due c.time)) e)
 no_first_by (a ∷ alarms) c high e n h = absurd (h (omega arith))
 

@@ -38,12 +38,15 @@ found_same e (a ∷ alarms) =
     ap (λ t. cond t (Some a) (lookup (is_at (nat_cmp e)) (map under_number alarms))) (number_test e a.no)
     ∙ ap (λ r. cond (a.no == e) (Some a) r) (found_same e alarms)
 
-out_by : (t : Bool) (low high e : ℕ) (a : Alarm) (alarms : List Alarm) → (a.no == e) ≡ t → AreNumbered low high (a ∷ alarms) → remove_entry (is_at (nat_cmp e)) (map under_number alarms) ≡ map under_number (filter (is_other_alarm e) alarms)
-    → cond t (map under_number alarms) (under_number a ∷ remove_entry (is_at (nat_cmp e)) (map under_number alarms)) ≡ map under_number (cond (not t) (a ∷ filter (is_other_alarm e) alarms) (filter (is_other_alarm e) alarms))
+out_by : (t : Bool) (low high e : ℕ) (a : Alarm) (alarms : List Alarm) → (a.no == e) ≡ t → AreNumbered low high (a ∷ alarms)
+    → remove_entry (is_at (nat_cmp e)) (map under_number alarms) ≡ map under_number (filter (is_other_alarm e) alarms)
+    → cond t (map under_number alarms) (under_number a ∷ remove_entry (is_at (nat_cmp e)) (map under_number alarms)) ≡ map under_number
+    (cond (not t) (a ∷ filter (is_other_alarm e) alarms) (filter (is_other_alarm e) alarms))
 out_by true low high e a alarms h n r = ap (map under_number) (sym (no_earlier (a.no + 1) high e alarms (omega (arith, eqb-true a.no e h)) n.2).1)
 out_by false low high e a alarms h n r = ap (λ es. under_number a ∷ es) r
 
-out_of_map : (low high e : ℕ) (alarms : List Alarm) → AreNumbered low high alarms → remove_entry (is_at (nat_cmp e)) (map under_number alarms) ≡ map under_number (filter (is_other_alarm e) alarms)
+out_of_map : (low high e : ℕ) (alarms : List Alarm) → AreNumbered low high alarms
+    → remove_entry (is_at (nat_cmp e)) (map under_number alarms) ≡ map under_number (filter (is_other_alarm e) alarms)
 out_of_map low high e [] n = refl
 out_of_map low high e (a ∷ alarms) n =
     ap (λ t. cond t (map under_number alarms) (under_number a ∷ remove_entry (is_at (nat_cmp e)) (map under_number alarms))) (number_test e a.no)
@@ -53,10 +56,12 @@ out_of_map low high e (a ∷ alarms) n =
 newest : (a b : ℕ) → b < a → nat_cmp a b ≡ Greater
 newest a b l = grind (arith, nat_tests)
 
-into_map : (a : Alarm) (alarms : List Alarm) → All (λ (b : Alarm). b.no < a.no) alarms → insert_entry nat_cmp (map under_number alarms) a.no a ≡ map under_number (alarms ++ a ∷ [])
+into_map : (a : Alarm) (alarms : List Alarm) → All (λ (b : Alarm). b.no < a.no) alarms
+    → insert_entry nat_cmp (map under_number alarms) a.no a ≡ map under_number (alarms ++ a ∷ [])
 into_map a [] h = refl
 into_map a (b ∷ alarms) h =
-    ap (λ o. match_ordering o (under_number a ∷ map under_number (b ∷ alarms)) ((b.no, a) ∷ map under_number alarms) (under_number b ∷ insert_entry nat_cmp (map under_number alarms) a.no a))
+    ap (λ o. match_ordering o (under_number a ∷ map under_number (b ∷ alarms)) ((b.no, a) ∷ map under_number alarms)
+    (under_number b ∷ insert_entry nat_cmp (map under_number alarms) a.no a))
     (newest a.no b.no (All-head (λ (b : Alarm). b.no < a.no) b alarms h))
     ∙ ap (λ es. under_number b ∷ es) (into_map a alarms (All-tail (λ (b : Alarm). b.no < a.no) b alarms h))
 
@@ -74,18 +79,23 @@ greater_by false o e = e
 place_greater : (s t : ℤ) (o : Ordering) → int_lt s t ≡ false → o ≡ Greater → ordering_then (int_cmp s t) o ≡ Greater
 place_greater s t o e g = ap (λ b. ordering_then (cond b Less (cond (int_lt t s) Greater Equal)) o) e ∙ greater_by (int_lt t s) o g
 
-into_set_by : (t : Bool) (a b : Alarm) (alarms : List Alarm) → int_lt a.time b.time ≡ t → b.no < a.no → insert_key place_cmp (map place_of alarms) (place_of a) ≡ map place_of (insert_alarm a alarms)
+into_set_by : (t : Bool) (a b : Alarm) (alarms : List Alarm) → int_lt a.time b.time ≡ t → b.no < a.no
+    → insert_key place_cmp (map place_of alarms) (place_of a) ≡ map place_of (insert_alarm a alarms)
     → insert_key place_cmp (map place_of (b ∷ alarms)) (place_of a) ≡ map place_of (cond t (a ∷ b ∷ alarms) (b ∷ insert_alarm a alarms))
 into_set_by true a b alarms e l r =
-    ap (λ o. match_ordering o (place_of a ∷ map place_of (b ∷ alarms)) (map place_of (b ∷ alarms)) (place_of b ∷ insert_key place_cmp (map place_of alarms) (place_of a))) (place_less a.time b.time (nat_cmp a.no b.no) e)
+    ap (λ o. match_ordering o (place_of a ∷ map place_of (b ∷ alarms)) (map place_of (b ∷ alarms))
+    (place_of b ∷ insert_key place_cmp (map place_of alarms) (place_of a))) (place_less a.time b.time (nat_cmp a.no b.no) e)
 into_set_by false a b alarms e l r =
-    ap (λ o. match_ordering o (place_of a ∷ map place_of (b ∷ alarms)) (map place_of (b ∷ alarms)) (place_of b ∷ insert_key place_cmp (map place_of alarms) (place_of a))) (place_greater a.time b.time (nat_cmp a.no b.no) e (newest a.no b.no l))
+    ap (λ o. match_ordering o (place_of a ∷ map place_of (b ∷ alarms)) (map place_of (b ∷ alarms))
+    (place_of b ∷ insert_key place_cmp (map place_of alarms) (place_of a))) (place_greater a.time b.time (nat_cmp a.no b.no) e (newest a.no b.no l))
     ∙ ap (λ ps. place_of b ∷ ps) r
 
-into_set : (a : Alarm) (alarms : List Alarm) → All (λ (b : Alarm). b.no < a.no) alarms → insert_key place_cmp (map place_of alarms) (place_of a) ≡ map place_of (insert_alarm a alarms)
+into_set : (a : Alarm) (alarms : List Alarm) → All (λ (b : Alarm). b.no < a.no) alarms
+    → insert_key place_cmp (map place_of alarms) (place_of a) ≡ map place_of (insert_alarm a alarms)
 into_set a [] h = refl
 into_set a (b ∷ alarms) h =
-    into_set_by (int_lt a.time b.time) a b alarms refl (All-head (λ (b : Alarm). b.no < a.no) b alarms h) (into_set a alarms (All-tail (λ (b : Alarm). b.no < a.no) b alarms h))
+    into_set_by (int_lt a.time b.time) a b alarms refl (All-head (λ (b : Alarm). b.no < a.no) b alarms h)
+    (into_set a alarms (All-tail (λ (b : Alarm). b.no < a.no) b alarms h))
 
 -- whether an alarm has the place
 abbrev is_there : ℤ × ℕ → Alarm → Bool
@@ -146,14 +156,19 @@ same_kept p q (a ∷ alarms) h =
 abbrev is_elsewhere : ℤ × ℕ → Alarm → Bool
 is_elsewhere place a = not (is_there place a)
 
-place_out_by : (t : Bool) (place : ℤ × ℕ) (a : Alarm) (alarms : List Alarm) → is_there place a ≡ t → AreByTime (a ∷ alarms) → remove_key (is_at (place_cmp place)) (map place_of alarms) ≡ map place_of (filter (is_elsewhere place) alarms)
-    → cond t (map place_of alarms) (place_of a ∷ remove_key (is_at (place_cmp place)) (map place_of alarms)) ≡ map place_of (cond (not t) (a ∷ filter (is_elsewhere place) alarms) (filter (is_elsewhere place) alarms))
+place_out_by : (t : Bool) (place : ℤ × ℕ) (a : Alarm) (alarms : List Alarm) → is_there place a ≡ t → AreByTime (a ∷ alarms)
+    → remove_key (is_at (place_cmp place)) (map place_of alarms) ≡ map place_of (filter (is_elsewhere place) alarms)
+    → cond t (map place_of alarms) (place_of a ∷ remove_key (is_at (place_cmp place)) (map place_of alarms)) ≡ map place_of
+    (cond (not t) (a ∷ filter (is_elsewhere place) alarms) (filter (is_elsewhere place) alarms))
 place_out_by true place a alarms e s r =
-    let here : All (λ (b : Alarm). is_elsewhere (place_of a) b ≡ true) alarms = All-weaker (IsBefore a) (λ (b : Alarm). is_elsewhere (place_of a) b ≡ true) (λ b q. ap not (before_less a b q)) alarms s.0
-    in ap (map place_of) (sym (all_kept (is_elsewhere place) alarms (subst (λ (p : ℤ × ℕ). All (λ (b : Alarm). is_elsewhere p b ≡ true) alarms) (sym (equal_place place a e)) here)))
+    let here : All (λ (b : Alarm). is_elsewhere (place_of a) b ≡ true) alarms =
+    All-weaker (IsBefore a) (λ (b : Alarm). is_elsewhere (place_of a) b ≡ true) (λ b q. ap not (before_less a b q)) alarms s.0
+    in ap (map place_of) (sym (all_kept (is_elsewhere place) alarms
+    (subst (λ (p : ℤ × ℕ). All (λ (b : Alarm). is_elsewhere p b ≡ true) alarms) (sym (equal_place place a e)) here)))
 place_out_by false place a alarms e s r = ap (λ ps. place_of a ∷ ps) r
 
-place_out : (place : ℤ × ℕ) (alarms : List Alarm) → AreByTime alarms → remove_key (is_at (place_cmp place)) (map place_of alarms) ≡ map place_of (filter (is_elsewhere place) alarms)
+place_out : (place : ℤ × ℕ) (alarms : List Alarm) → AreByTime alarms
+    → remove_key (is_at (place_cmp place)) (map place_of alarms) ≡ map place_of (filter (is_elsewhere place) alarms)
 place_out place [] s = refl
 place_out place (a ∷ alarms) s = place_out_by (is_there place a) place a alarms refl s (place_out place alarms s.1)
 
@@ -170,24 +185,31 @@ one_there_by false a b alarms h f g = ap not (unequal (int_cmp a.time b.time) (n
 one_there : (a b : Alarm) (alarms : List Alarm) → IsFound alarms a → IsFound alarms b → is_elsewhere (place_of a) b ≡ is_other_alarm a.no b
 one_there a b alarms f g = one_there_by (b.no == a.no) a b alarms refl f g
 
-out_of_set : (high : ℕ) (a : Alarm) (alarms : List Alarm) → AreNumbered 0 high alarms → IsFound alarms a → remove_key (is_at (place_cmp (place_of a))) (map place_of (by_time alarms)) ≡ map place_of (by_time (filter (is_other_alarm a.no) alarms))
+out_of_set : (high : ℕ) (a : Alarm) (alarms : List Alarm) → AreNumbered 0 high alarms → IsFound alarms a
+    → remove_key (is_at (place_cmp (place_of a))) (map place_of (by_time alarms)) ≡ map place_of (by_time (filter (is_other_alarm a.no) alarms))
 out_of_set high a alarms n f =
     let each : All (IsFound alarms) (by_time alarms) = all_by_time (IsFound alarms) alarms (each_found 0 high alarms n)
     in place_out (place_of a) (by_time alarms) (sorted high alarms n)
     ∙ ap (map place_of)
-    (same_kept (is_elsewhere (place_of a)) (is_other_alarm a.no) (by_time alarms) (All-weaker (IsFound alarms) (λ (b : Alarm). is_elsewhere (place_of a) b ≡ is_other_alarm a.no b) (λ b g. one_there a b alarms f g) (by_time alarms) each)
+    (same_kept (is_elsewhere (place_of a)) (is_other_alarm a.no) (by_time alarms)
+    (All-weaker (IsFound alarms) (λ (b : Alarm). is_elsewhere (place_of a) b ≡ is_other_alarm a.no b) (λ b g. one_there a b alarms f g)
+    (by_time alarms) each)
     ∙ filtered (is_other_alarm a.no) high alarms n)
 
 -- an alarm that is found under a number
-pub found_in : (next e : ℕ) (entries : List (ℕ × Alarm)) (places : List (ℤ × ℕ)) → AreKept next entries places → lookup (is_at (nat_cmp e)) entries ≡ find (is_alarm e) (values_of entries)
+pub found_in : (next e : ℕ) (entries : List (ℕ × Alarm)) (places : List (ℤ × ℕ)) → AreKept next entries places
+    → lookup (is_at (nat_cmp e)) entries ≡ find (is_alarm e) (values_of entries)
 found_in next e entries places k = ap (lookup (is_at (nat_cmp e))) k.1 ∙ found_same e (values_of entries)
 
 -- the alarm of a number is taken out of the map, and its place out of the set
-pub values_out : (next e : ℕ) (entries : List (ℕ × Alarm)) (places : List (ℤ × ℕ)) → AreKept next entries places → values_of (remove_entry (is_at (nat_cmp e)) entries) ≡ filter (is_other_alarm e) (values_of entries)
+pub values_out : (next e : ℕ) (entries : List (ℕ × Alarm)) (places : List (ℤ × ℕ)) → AreKept next entries places
+    → values_of (remove_entry (is_at (nat_cmp e)) entries) ≡ filter (is_other_alarm e) (values_of entries)
 values_out next e entries places k =
-    ap (λ es. values_of (remove_entry (is_at (nat_cmp e)) es)) k.1 ∙ ap values_of (out_of_map 0 next e (values_of entries) k.0) ∙ values_same (filter (is_other_alarm e) (values_of entries))
+    ap (λ es. values_of (remove_entry (is_at (nat_cmp e)) es)) k.1 ∙ ap values_of (out_of_map 0 next e (values_of entries) k.0)
+    ∙ values_same (filter (is_other_alarm e) (values_of entries))
 
-both_out : (next e : ℕ) (a : Alarm) (entries : List (ℕ × Alarm)) (places : List (ℤ × ℕ)) → AreKept next entries places → lookup (is_at (nat_cmp e)) entries ≡ Some a
+both_out : (next e : ℕ) (a : Alarm) (entries : List (ℕ × Alarm)) (places : List (ℤ × ℕ)) → AreKept next entries places
+    → lookup (is_at (nat_cmp e)) entries ≡ Some a
     → AreKept next (remove_entry (is_at (nat_cmp e)) entries) (remove_key (is_at (place_cmp (a.time, e))) places)
 both_out next e a entries places k f =
     let alarms : List Alarm = values_of entries
@@ -205,11 +227,13 @@ both_out next e a entries places k f =
           ∙ ap (λ xs. map place_of (by_time xs)) (sym left),
     )
 
-pub kept_same : (next : ℕ) (entries left : List (ℕ × Alarm)) (places places_left : List (ℤ × ℕ)) → left ≡ entries → places_left ≡ places → AreKept next entries places → AreKept next left places_left
+pub kept_same : (next : ℕ) (entries left : List (ℕ × Alarm)) (places places_left : List (ℤ × ℕ)) → left ≡ entries → places_left ≡ places
+    → AreKept next entries places → AreKept next left places_left
 kept_same next entries left places places_left d e k =
     subst (λ (es : List (ℕ × Alarm)). AreKept next es places_left) (sym d) (subst (AreKept next entries) (sym e) k)
 
-pub kept_out : (next e : ℕ) (a : Alarm) (entries left : List (ℕ × Alarm)) (places places_left : List (ℤ × ℕ)) → AreKept next entries places → lookup (is_at (nat_cmp e)) entries ≡ Some a
+pub kept_out : (next e : ℕ) (a : Alarm) (entries left : List (ℕ × Alarm)) (places places_left : List (ℤ × ℕ)) → AreKept next entries places
+    → lookup (is_at (nat_cmp e)) entries ≡ Some a
     → left ≡ remove_entry (is_at (nat_cmp e)) entries → places_left ≡ remove_key (is_at (place_cmp (a.time, e))) places → AreKept next left places_left
 kept_out next e a entries left places places_left k f d g = kept_same next _ left _ places_left d g (both_out next e a entries places k f)
 
@@ -217,11 +241,13 @@ kept_out next e a entries left places places_left k f d g = kept_same next _ lef
 all_older : (next : ℕ) (a : Alarm) (alarms : List Alarm) → AreNumbered 0 next alarms → a.no ≡ next → All (λ (b : Alarm). b.no < a.no) alarms
 all_older next a alarms n e = subst (λ (m : ℕ). All (λ (b : Alarm). b.no < m) alarms) (sym e) (all_below 0 next alarms n)
 
-entries_in : (next : ℕ) (a : Alarm) (entries : List (ℕ × Alarm)) (places : List (ℤ × ℕ)) → AreKept next entries places → a.no ≡ next → insert_entry nat_cmp entries a.no a ≡ map under_number (values_of entries ++ a ∷ [])
+entries_in : (next : ℕ) (a : Alarm) (entries : List (ℕ × Alarm)) (places : List (ℤ × ℕ)) → AreKept next entries places → a.no ≡ next
+    → insert_entry nat_cmp entries a.no a ≡ map under_number (values_of entries ++ a ∷ [])
 entries_in next a entries places k e =
     ap (λ es. insert_entry nat_cmp es a.no a) k.1 ∙ into_map a (values_of entries) (all_older next a (values_of entries) k.0 e)
 
-pub values_in : (next : ℕ) (a : Alarm) (entries : List (ℕ × Alarm)) (places : List (ℤ × ℕ)) → AreKept next entries places → a.no ≡ next → values_of (insert_entry nat_cmp entries a.no a) ≡ values_of entries ++ a ∷ []
+pub values_in : (next : ℕ) (a : Alarm) (entries : List (ℕ × Alarm)) (places : List (ℤ × ℕ)) → AreKept next entries places → a.no ≡ next
+    → values_of (insert_entry nat_cmp entries a.no a) ≡ values_of entries ++ a ∷ []
 values_in next a entries places k e = ap values_of (entries_in next a entries places k e) ∙ values_same (values_of entries ++ a ∷ [])
 
 both_in : (next : ℕ) (a : Alarm) (entries : List (ℕ × Alarm)) (places : List (ℤ × ℕ)) → AreKept next entries places → a.no ≡ next
@@ -248,7 +274,8 @@ pub entries_back : (next : ℕ) (a : Alarm) (entries : List (ℕ × Alarm)) (pla
     → remove_entry (is_at (nat_cmp a.no)) (insert_entry nat_cmp entries a.no a) ≡ entries
 entries_back next a entries places k e =
     let alarms : List Alarm = values_of entries
-    in let others : All (λ (b : Alarm). is_other_alarm a.no b ≡ true) alarms = All-weaker (λ (b : Alarm). b.no < a.no) (λ (b : Alarm). is_other_alarm a.no b ≡ true)
+    in let others : All (λ (b : Alarm). is_other_alarm a.no b ≡ true) alarms =
+    All-weaker (λ (b : Alarm). b.no < a.no) (λ (b : Alarm). is_other_alarm a.no b ≡ true)
     (λ b l. ap not (ne_eqb b.no a.no (λ h. omega (arith, h, l)))) alarms (all_older next a alarms k.0 e)
     in ap (remove_entry (is_at (nat_cmp a.no))) (entries_in next a entries places k e)
     ∙ out_of_map 0 (next + 1) a.no (alarms ++ a ∷ []) (numbered_more 0 next alarms a (omega arith) e k.0)

@@ -46,14 +46,16 @@ each_found low high [] a = All-nil (IsFound [])
 each_found low high (x ∷ xs) a =
     All-cons (IsFound (x ∷ xs)) x xs
     (ap (λ t. cond t (Some x) (find (is_alarm x.no) xs)) (eq-eqb x.no x.no refl))
-    (λ k d l. ap (λ t. cond t (Some x) (find (is_alarm (get_or xs k d).no) xs)) (ne_eqb x.no (get_or xs k d).no (λ e. omega (arith, e, all_from (x.no + 1) high xs a.2 k d l)))
+    (λ k d l. ap (λ t. cond t (Some x) (find (is_alarm (get_or xs k d).no) xs))
+    (ne_eqb x.no (get_or xs k d).no (λ e. omega (arith, e, all_from (x.no + 1) high xs a.2 k d l)))
     ∙ each_found (x.no + 1) high xs a.2 k d l)
 
 -- what is found has the number
 some_same : (x y : Alarm) → Some x ≡ Some y → x ≡ y
 some_same x y e = cc
 
-found_by : (t : Bool) (e : ℕ) (x y : Alarm) (xs : List Alarm) → (x.no == e) ≡ t → (find (is_alarm e) xs ≡ Some y → y.no ≡ e) → cond t (Some x) (find (is_alarm e) xs) ≡ Some y → y.no ≡ e
+found_by : (t : Bool) (e : ℕ) (x y : Alarm) (xs : List Alarm) → (x.no == e) ≡ t → (find (is_alarm e) xs ≡ Some y → y.no ≡ e)
+    → cond t (Some x) (find (is_alarm e) xs) ≡ Some y → y.no ≡ e
 found_by true e x y xs h r f = subst (λ (z : Alarm). z.no ≡ e) (some_same x y f) (eqb-true x.no e h)
 found_by false e x y xs h r f = r f
 
@@ -62,7 +64,8 @@ found_has e [] y f = cc
 found_has e (x ∷ xs) y f = found_by (x.no == e) e x y xs refl (found_has e xs y) f
 
 -- where none of that number is pending, nothing is taken out
-none_out_by : (t : Bool) (e : ℕ) (x : Alarm) (xs : List Alarm) → (x.no == e) ≡ t → find (is_alarm e) (x ∷ xs) ≡ None → (find (is_alarm e) xs ≡ None → filter (is_other_alarm e) xs ≡ xs) → filter (is_other_alarm e) (x ∷ xs) ≡ x ∷ xs
+none_out_by : (t : Bool) (e : ℕ) (x : Alarm) (xs : List Alarm) → (x.no == e) ≡ t → find (is_alarm e) (x ∷ xs) ≡ None
+    → (find (is_alarm e) xs ≡ None → filter (is_other_alarm e) xs ≡ xs) → filter (is_other_alarm e) (x ∷ xs) ≡ x ∷ xs
 none_out_by true e x xs h f r = absurd (some_none x (sym (ap (λ t. cond t (Some x) (find (is_alarm e) xs)) h) ∙ f))
 none_out_by false e x xs h f r =
     ap (λ t. cond (not t) (x ∷ filter (is_other_alarm e) xs) (filter (is_other_alarm e) xs)) h
@@ -73,7 +76,8 @@ none_out e [] f = refl
 none_out e (x ∷ xs) f = none_out_by (x.no == e) e x xs refl f (none_out e xs)
 
 -- one more alarm, under the next number
-pub numbered_more : (low high : ℕ) (xs : List Alarm) (x : Alarm) → low ≤ high → x.no ≡ high → AreNumbered low high xs → AreNumbered low (high + 1) (xs ++ x ∷ [])
+pub numbered_more : (low high : ℕ) (xs : List Alarm) (x : Alarm) → low ≤ high → x.no ≡ high → AreNumbered low high xs
+    → AreNumbered low (high + 1) (xs ++ x ∷ [])
 numbered_more low high [] x m e a = (omega (arith, m, e), omega (arith, e), tt)
 numbered_more low high (y ∷ ys) x m e a = (a.0, omega (arith, a.1), numbered_more (y.no + 1) high ys x (omega (arith, a.1)) e a.2)
 

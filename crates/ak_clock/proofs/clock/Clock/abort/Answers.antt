@@ -16,10 +16,12 @@ abbrev with_alarms : plain.Clock → List Alarm → plain.Clock
 with_alarms clock alarms = record { time = clock.time; alarms = alarms; next = clock.next; yields = clock.yields }
 
 -- the places that are left, as the call of the set gives them
-without_place : (n e : ℕ) (time : ℤ) (places left : List (ℤ × ℕ)) → SFits w64 time → n ≡ e → left ≡ remove_key (is_at (place_cmp (to_z w64 (of_z w64 time), n))) places
+without_place : (n e : ℕ) (time : ℤ) (places left : List (ℤ × ℕ)) → SFits w64 time → n ≡ e
+    → left ≡ remove_key (is_at (place_cmp (to_z w64 (of_z w64 time), n))) places
     → left ≡ remove_key (is_at (place_cmp (time, e))) places
 without_place n e time places left fits h l =
-    l ∙ ap (λ (t : ℤ). remove_key (is_at (place_cmp (t, n))) places) (to_z-of_z w64 time fits) ∙ ap (λ (k : ℕ). remove_key (is_at (place_cmp (time, k))) places) h
+    l ∙ ap (λ (t : ℤ). remove_key (is_at (place_cmp (t, n))) places) (to_z-of_z w64 time fits)
+    ∙ ap (λ (k : ℕ). remove_key (is_at (place_cmp (time, k))) places) h
 
 pub returns-in_err-alarm-clause-ivar : goal.returns-in_err-alarm-clause-ivar
 returns-in_err-alarm-clause-ivar c =
@@ -49,7 +51,10 @@ invariant_of-self-2 c =
     in let fits : SFits w64 alarm.time = search rules
     in let places : c.remove-2.new.self.keys ≡ remove_key (is_at (place_cmp (alarm.time, e))) p.order.keys =
     without_place c.number-2.result e alarm.time p.order.keys c.remove-2.new.self.keys fits c.number-2.ensures c.remove-2.ensures.keys
-    in (c.self.invariant.0, kept_out p.next e alarm p.alarms.entries c.remove.new.self.entries p.order.keys c.remove-2.new.self.keys c.self.invariant.1 found left places)
+    in (
+      c.self.invariant.0,
+      kept_out p.next e alarm p.alarms.entries c.remove.new.self.entries p.order.keys c.remove-2.new.self.keys c.self.invariant.1 found left places,
+    )
 
 pub returns-clause-ivar : goal.returns-clause-ivar
 returns-clause-ivar c =

@@ -29,11 +29,13 @@ due c =
     let p = c.self.inside
     in let place = c.in_ok-time.field-0.now
     in let was : plain.Clock = seen p.time p.alarms.entries p.next p.yields.items
-    in let first : slice_get (map place_of (plain.by_time was.alarms)) 0 ≡ Some place = ap (λ ps. slice_get ps 0) (sym c.self.invariant.1.2) ∙ c.in_ok-time.ensures.first
+    in let first : slice_get (map place_of (plain.by_time was.alarms)) 0 ≡ Some place = ap (λ ps. slice_get ps 0) (sym c.self.invariant.1.2)
+    ∙ c.in_ok-time.ensures.first
     in let fits : SFits w64 place.0 = search rules
     in let time_fits : SFits w64 p.time = search rules
     in let here : place.0 ≤ℤ p.time = le_from place.0 p.time (told place.0 p.time true fits time_fits c.if-time-self.true)
-    in subst (IsDueFirst c.new.result) c.self.view_is (subst (λ (e : ℕ). IsDueFirst e was) (sym c.new.ensures) (first_is_due was p.next place c.self.invariant.1.0 first here))
+    in subst (IsDueFirst c.new.result) c.self.view_is
+    (subst (λ (e : ℕ). IsDueFirst e was) (sym c.new.ensures) (first_is_due was p.next place c.self.invariant.1.0 first here))
 
 pub returns-then-time-self-clause-alarm : goal.returns-then-time-self-clause-alarm
 returns-then-time-self-clause-alarm c = (due c).0
@@ -52,7 +54,8 @@ early c =
     let p = c.self.inside
     in let place = c.in_ok-time.field-0.now
     in let was : plain.Clock = seen p.time p.alarms.entries p.next p.yields.items
-    in let first : slice_get (map place_of (plain.by_time was.alarms)) 0 ≡ Some place = ap (λ ps. slice_get ps 0) (sym c.self.invariant.1.2) ∙ c.in_ok-time.ensures.first
+    in let first : slice_get (map place_of (plain.by_time was.alarms)) 0 ≡ Some place = ap (λ ps. slice_get ps 0) (sym c.self.invariant.1.2)
+    ∙ c.in_ok-time.ensures.first
     in let fits : SFits w64 place.0 = search rules
     in let time_fits : SFits w64 p.time = search rules
     in let later : p.time <ℤ place.0 = lt_from place.0 p.time (told place.0 p.time false fits time_fits c.if-time-self.false)
@@ -79,7 +82,8 @@ none c =
 
 pub returns-in_err-time-clause-alarm : goal.returns-in_err-time-clause-alarm
 returns-in_err-time-clause-alarm c =
-    subst (λ (o : Option ℕ). MatchOption o (first_of (plain.due_alarms c.args.self.now) ≡ None) (λ (e : ℕ). plain.alarm_of e c.args.self.now ≡ first_of (plain.due_alarms c.args.self.now)))
+    subst (λ (o : Option ℕ). MatchOption o (first_of (plain.due_alarms c.args.self.now) ≡ None)
+    (λ (e : ℕ). plain.alarm_of e c.args.self.now ≡ first_of (plain.due_alarms c.args.self.now)))
     (sym c.from_residual.ensures) (none c).0
 
 pub returns-in_err-time-clause-any : goal.returns-in_err-time-clause-any
