@@ -30,4 +30,5 @@ runs_to config bytes script program trace history is_script procs_are main_is ra
       trace_is = by_script.trace_is;
       asks_are = by_script.asks_are;
       once = once;
+      laws = ran.laws;
     }

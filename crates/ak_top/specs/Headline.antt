@@ -11,6 +11,7 @@ use Rattle.ak_valid.specs.Numbered.{numbered, main_of}
 use Rattle.ak_machine.specs.declared.config.Config.{Config}
 use Rattle.ak_machine.specs.Run.{Run, HasEnded, run_of}
 use Rattle.ak_history_laws.specs.Once.{StartOnce}
+use Rattle.ak_laws.specs.Laws.{ObeysLaws}
 use Rattle.ak_top.specs.Reading.{Had}
 
 -- the bytes are a valid script
@@ -34,6 +35,8 @@ pub record RunsTo (config : Config) (bytes : List ℕ) (trace : List Entry) (his
   pub asks_are : (run_on script config history).asks ≡ asks history
   -- each accepted work is begun at most once, and exactly once where the run ended idle
   pub once : StartOnce trace history
+  -- the trace obeys the laws of traces that are proved
+  pub laws : ObeysLaws config.limit trace
 
 -- The headline, for the settings of a command and what a source had.
 pub record IsRun (config : Config) (told : Option (List ℕ)) (trace : List Entry) (history : List Event) : Type 0 where
