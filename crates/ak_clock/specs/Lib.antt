@@ -1,4 +1,5 @@
+pub mod Calls
 pub mod Clock
-pub mod Earliest
+pub mod Kept
 pub mod Order
 pub mod Story

@@ -1,39 +1,41 @@
 //! The clock of a run.
 
-ghost use Rattle.std.specs.Prelude.{ℤ, ◌≡◌, ◌+◌, ◌-◌, ◌<◌, ◌≤ℤ◌, ◌+ℤ◌, ◌^◌, pos, false, None, Err, OnOk, OnErr, IfOk, IfErr, MatchOption, length, slice_get, find};
+ghost use Rattle.std.specs.Prelude.{ℤ, ◌≡◌, ◌+◌, ◌-◌, ◌<◌, ◌≤ℤ◌, ◌+ℤ◌, ◌^◌, pos, false, None, Err, OnOk, OnErr, IfOk, IfErr, MatchOption, is_some};
 ghost use Rattle.ak_base.specs.Lists.{first_of};
 ghost use Rattle.ak_clock.specs.Clock as plain;
-ghost use Rattle.ak_clock.specs.Earliest.{earlier as earlier_of, earliest_due as earliest_of};
 ghost use Rattle.ak_clock.specs.Order.{AreByTime};
 
 use crate::alarm::{AfterRefused, Alarm, TickRefused};
 use ak_base::list::NoMemory;
 use ak_base::number::{EventNo, IvarNo, Num};
 use std::alloc::Global;
-use std::collections::VecDeque;
+use std::collections::{BTreeMap, BTreeSet, VecDeque};
 use std::marker::Model;
 
 /// The time, the alarms that are pending, in order of their numbers, and the deferreds that wait for the next cycle.
 /// Contracts see these, and the number of the next alarm (after `Clock` and `yield` of Async; that the clock moves only by
-/// the script is own).
+/// the script is own). To set an alarm, to abort it and to take it when it is due cost O(log n) where n are pending.
 #[derive(Debug, Drop)]
 pub struct Clock {
     time: Num,
-    alarms: Vec<Alarm>,
+    // The alarms under their numbers, and their times and numbers in order.
+    alarms: BTreeMap<u32, Alarm>,
+    order: BTreeSet<(Num, u32)>,
     next: u32,
     yields: VecDeque<IvarNo>,
 }
 
 impl Model for Clock {
     ghost use Rattle.std.specs.Prelude.{pos, ◌≤ℤ◌};
+    ghost use Rattle.std.specs.Map.{values_of};
     ghost use Rattle.ak_clock.specs.Clock.{Clock as Plain};
-    ghost use Rattle.ak_clock.specs.Order.{AreNumbered};
+    ghost use Rattle.ak_clock.specs.Kept.{AreKept};
 
     ghost Value = { Plain };
 
-    ghost view = { λ c. record { time = c.time; alarms = c.alarms.items; next = c.next; yields = c.yields.items } };
+    ghost view = { λ c. record { time = c.time; alarms = values_of c.alarms.entries; next = c.next; yields = c.yields.items } };
 
-    ghost invariant = { λ c. (pos 0 ≤ℤ c.time) × AreNumbered 0 c.next c.alarms.items };
+    ghost invariant = { λ c. (pos 0 ≤ℤ c.time) × AreKept c.next c.alarms.entries c.order.keys };
 }
 
 impl Clock {
@@ -43,7 +45,8 @@ impl Clock {
     {
         Clock {
             time: 0,
-            alarms: Vec::new(alloc),
+            alarms: BTreeMap::new(alloc),
+            order: BTreeSet::new(alloc),
             next: 0,
             yields: VecDeque::new(alloc),
         }
@@ -83,8 +86,8 @@ impl Clock {
         ensures ivar { result ≡ plain.ivar_of (plain.alarm_of e self.old) }
         ensures new { self.new ≡ plain.without_this (plain.alarm_of e self.old) self.old }
     {
-        let alarm = self.pending(e)?;
-        self.remove(alarm.no);
+        let alarm = self.alarms.remove(&e.number())?;
+        self.order.remove(&(alarm.time, e.number()));
         Some(alarm.ivar)
     }
 
@@ -118,13 +121,11 @@ impl Clock {
         ensures new { self.new ≡ plain.due_taken self.old }
         ensures by_time { AreByTime (plain.due_alarms self.old) }
     {
-        let alarm = self.first_due()?;
-        self.remove(alarm.no);
-        Some(alarm.ivar)
+        let e = self.first_due()?;
+        self.abort(e)
     }
 
-    #[tactic(auto, using(crate::proofs::Due::has_due_same))]
-    /// Whether an alarm is due.
+    /// Whether an alarm is due. It costs a look at the first.
     pub fn any_due(&self) -> bool
         ensures { result ≡ plain.has_due self.now }
     {
@@ -168,74 +169,34 @@ impl Clock {
         ensures refused { IfErr result (λ r. r ≡ AfterRefused.NoMemory) }
         ensures err { OnErr result (self.new ≡ self.old) }
     {
-        if self.alarms.reserve(1).is_err() {
+        let no = EventNo::new(self.next);
+        if self
+            .alarms
+            .insert(self.next, Alarm { no, time, ivar: i })
+            .is_err()
+        {
             return Err(AfterRefused::NoMemory);
         }
-        let no = EventNo::new(self.next);
+        if self.order.insert((time, self.next)).is_err() {
+            self.alarms.remove(&self.next);
+            return Err(AfterRefused::NoMemory);
+        }
         self.next += 1;
-        self.alarms.push_reserved(Alarm { no, time, ivar: i });
         Ok(no)
     }
 
-    // The pending alarm of a number.
-    fn pending(&self, e: EventNo) -> Option<Alarm>
-        ensures { result ≡ plain.alarm_of e self.now }
-    {
-        let k = place(self.alarms.as_slice(), e)?;
-        Some(self.alarms[k])
-    }
-
-    // The alarm of a number is not pending any more.
-    fn remove(&mut self, e: EventNo)
-        ensures { self.new ≡ plain.without_alarm e self.old }
-    {
-        if let Some(k) = place(self.alarms.as_slice(), e) {
-            self.alarms.remove(k);
-        }
-    }
-
-    // The alarm that is due and comes first.
-    fn first_due(&self) -> Option<Alarm>
-        ensures alarm { result ≡ first_of (plain.due_alarms self.now) }
+    // The number of the alarm that is due and comes first.
+    fn first_due(&self) -> Option<EventNo>
+        ensures alarm { MatchOption result (first_of (plain.due_alarms self.now) ≡ None)
+            (λ e. plain.alarm_of e self.now ≡ first_of (plain.due_alarms self.now)) }
+        ensures any { is_some result ≡ plain.has_due self.now }
         ensures by_time { AreByTime (plain.due_alarms self.now) }
     {
-        let mut first = None;
-        for k in 0..self.alarms.len() {
-            first = earliest_due(self.time, first, self.alarms[k]);
-        }
-        first
-    }
-}
-
-// The earliest alarm so far that is due, and one more.
-fn earliest_due(now: Num, first: Option<Alarm>, alarm: Alarm) -> Option<Alarm>
-    ensures { result ≡ earliest_of now first alarm }
-{
-    if alarm.time <= now {
-        earlier(first, alarm)
-    } else {
-        first
-    }
-}
-
-// The earlier of two alarms; of equal times the first.
-fn earlier(first: Option<Alarm>, alarm: Alarm) -> Option<Alarm>
-    ensures { result ≡ earlier_of first alarm }
-{
-    match first {
-        Some(best) if alarm.time >= best.time => Some(best),
-        _ => Some(alarm),
-    }
-}
-
-// The place of the alarm of a number.
-fn place(alarms: &[Alarm], e: EventNo) -> Option<usize>
-    ensures { MatchOption result (find (plain.is_alarm e) alarms.now ≡ None) (λ k. (k < length alarms.now) × (find (plain.is_alarm e) alarms.now ≡ slice_get alarms.now k)) }
-{
-    for k in 0..alarms.len() {
-        if alarms[k].no.number() == e.number() {
-            return Some(k);
+        let (time, no) = *self.order.first()?;
+        if time <= self.time {
+            Some(EventNo::new(no))
+        } else {
+            None
         }
     }
-    None
 }

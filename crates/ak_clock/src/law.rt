@@ -1,9 +1,10 @@
 //! Laws of the clock. Each function has an empty body: its contract is the law.
 
-ghost use Rattle.std.specs.Prelude.{ℕ, ◌≡◌, Bool, List, None, filter};
+ghost use Rattle.std.specs.Prelude.{ℕ, ◌≡◌, ◌↔◌, Bool, List, None, filter};
 ghost use Rattle.std.specs.List.{count_by};
 ghost use Rattle.ak_clock.specs.declared.alarm.Alarm.{Alarm};
-ghost use Rattle.ak_clock.specs.Clock.{Clock, is_due, due_alarms, alarm_of, without_alarm};
+ghost use Rattle.ak_clock.specs.Calls.{DueGives, YieldsGiven, due_ivars};
+ghost use Rattle.ak_clock.specs.Clock.{Clock, is_due, due_alarms, alarm_of, without_alarm, without_due, without_yields};
 ghost use Rattle.ak_clock.specs.Order.{AreNumbered, AreByTime};
 
 /// The alarms that are due come in order of time, and of number where the times are equal.
@@ -22,4 +23,20 @@ pub fn due_alarms_are_those_whose_time_has_come()
 #[tactic(auto, using(crate::proofs::Numbered::none_pending))]
 pub fn abort_of_none_changes_nothing()
     ensures { (e : ℕ) (c : Clock) → alarm_of e c ≡ None → without_alarm e c ≡ c }
+{}
+
+/// Calls of `due`, made until one finds none, give the deferreds of exactly the alarms that are due, in order of time and
+/// then of number, and leave the others: what a cycle takes at once as it begins.
+#[tactic(auto, using(crate::proofs::Calls::due_exactly))]
+pub fn due_one_at_a_time_gives_all_that_are_due()
+    ensures { (ivars : List ℕ) (c after : Clock) (high : ℕ) → AreNumbered 0 high c.alarms
+        → DueGives ivars c after ↔ ((ivars ≡ due_ivars c) × (after ≡ without_due c)) }
+{}
+
+/// Calls of `next_yield`, made until one finds none, give exactly the deferreds that wait for the next cycle, the oldest
+/// first, and leave none: what a cycle takes at once as it begins.
+#[tactic(auto, using(crate::proofs::Calls::yields_exactly))]
+pub fn yields_one_at_a_time_are_all_that_wait()
+    ensures { (ivars : List ℕ) (c after : Clock)
+        → YieldsGiven ivars c after ↔ ((ivars ≡ c.yields) × (after ≡ without_yields c)) }
 {}

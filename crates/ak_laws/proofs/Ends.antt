@@ -1,16 +1,15 @@
 -- The end stands once and last.
-use Rattle.std.proofs.Common.{ℕ, ◌≡◌, List, [], ◌∷◌, ◌++◌, Option, Some, None, refl, sym, subst, ◌∙◌, ap}
+use Rattle.std.proofs.Common.{ℕ, ◌≡◌, List, [], ◌∷◌, ◌++◌, refl, sym, subst, ap}
 use Rattle.std.specs.List.{AllByRecursion}
 use Rattle.ak_labor.specs.Calls.{Reply}
 use Rattle.ak_trace.specs.declared.entry.Entry.{Entry}
 use Rattle.ak_trace.specs.declared.entry.Entry.TheVariants as entry
-use Rattle.ak_trace.specs.declared.entry.Ending.{Ending}
 use Rattle.ak_program.specs.declared.program.NumProc.{NumProc}
 use Rattle.ak_machine.specs.declared.config.Config.{Config}
 use Rattle.ak_machine.specs.State.{State}
 use Rattle.ak_machine.specs.Run.{Place, AtDrain, AtJob, AtClose, Ended as HasClosed, Wrong, Machine, Ran, HasEnded, Wants, IsWrong, ran_to, run_of, machine_after}
 use Rattle.ak_laws.specs.Ends.{IsNoEnd, EndsOnce}
-use Rattle.ak_laws.proofs.Kept.{IsQuiet, Kept, Ended}
+use Rattle.ak_laws.proofs.Kept.{IsQuiet, Ended}
 use Rattle.ak_laws.proofs.KeptRun.{PlaceHas, KeptByRuns, run_keeps}
 
 -- no entry of the state's trace is an end
@@ -28,6 +27,7 @@ quiet_is_no_end (entry.Join r i) q = tt
 quiet_is_no_end (entry.Print z) q = tt
 quiet_is_no_end (entry.Monitor m p) q = tt
 quiet_is_no_end (entry.Detach m) q = tt
+quiet_is_no_end (entry.Attach m) q = tt
 quiet_is_no_end (entry.Error e m) q = tt
 quiet_is_no_end (entry.Caught m) q = tt
 quiet_is_no_end (entry.Rest e) q = tt

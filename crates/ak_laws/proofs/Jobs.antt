@@ -9,7 +9,7 @@ use Rattle.ak_trace.specs.declared.entry.Entry.{Entry}
 use Rattle.ak_trace.specs.declared.entry.Entry.TheVariants as entry
 use Rattle.ak_laws.specs.Places.{EachAfter}
 use Rattle.ak_laws.specs.Order.{Waiting, nothing_waits, with_waiting, new_cycle, RunsNormal, RunsLow, Follows, Leads, IsInOrder}
-use Rattle.ak_laws.specs.Jobs.{is_among, enqueued_by, normal_by, low_by, run_by, enqueued, normal, low, ran, IsFront, IsNumbered, JobsInOrder, cycles_from, in_cycle, this_cycle, IsWithin, all_normal_ran, Yields, LowYields, CyclesAreLimited}
+use Rattle.ak_laws.specs.Jobs.{is_among, enqueued_by, normal_by, low_by, run_by, enqueued, normal, low, ran, IsFront, IsNumbered, JobsInOrder, cycles_from, in_cycle, this_cycle, IsWithin, Yields, LowYields, CyclesAreLimited}
 
 -- ---- lists of numbers
 all_append : (P : ℕ → Type 0) (xs ys : List ℕ) → AllByRecursion P xs → AllByRecursion P ys → AllByRecursion P (xs ++ ys)
@@ -85,7 +85,8 @@ among_more n (x ∷ xs) h = ap (λ b. b || is_among xs n) (more_other x n h.0) �
 -- what a filter keeps is among all
 all_kept : (p : ℕ → Bool) (before xs : List ℕ) → list_all (is_among (before ++ xs)) (filter p xs) ≡ true
 all_kept p before [] = refl
-all_kept p before (x ∷ xs) = by (p x) (subst (λ all. list_all (is_among all) (filter p xs) ≡ true) (append_assoc before (x ∷ []) xs) (all_kept p (before ++ x ∷ []) xs))
+all_kept p before (x ∷ xs) =
+    by (p x) (subst (λ all. list_all (is_among all) (filter p xs) ≡ true) (append_assoc before (x ∷ []) xs) (all_kept p (before ++ x ∷ []) xs))
   where
     by : (b : Bool) → list_all (is_among (before ++ x ∷ xs)) (filter p xs) ≡ true
         → list_all (is_among (before ++ x ∷ xs)) (cond b (x ∷ filter p xs) (filter p xs)) ≡ true
@@ -161,7 +162,8 @@ enqueue_normal N L limit all normals lows runs now w is_n is_l k =
       low_is = k.low_is;
       normal_waits =
           all_append (IsNormal N L (w.next + 1)) w.normal (w.next ∷ [])
-          (all_weaker (IsNormal N L w.next) (IsNormal N L (w.next + 1)) (λ m h. (omega (arith, h.0), h.1, h.2)) w.normal k.normal_waits) ((omega arith, is_n, is_l), tt);
+          (all_weaker (IsNormal N L w.next) (IsNormal N L (w.next + 1)) (λ m h. (omega (arith, h.0), h.1, h.2)) w.normal k.normal_waits)
+          ((omega arith, is_n, is_l), tt);
       low_waits = all_weaker (IsNormal L N w.next) (IsNormal L N (w.next + 1)) (λ m h. (omega (arith, h.0), h.1, h.2)) w.low k.low_waits;
       normal_now = k.normal_now;
       low_now = k.low_now;
@@ -177,8 +179,10 @@ enqueue_normal N L limit all normals lows runs now w is_n is_l k =
 
     normal_agrees : (m : ℕ) → m < w.next + 1 → is_among (normals ++ w.next ∷ []) m ≡ N m
     normal_agrees m l = elim (cases_lt m w.next) [
-      | inl lt ↦ among_append normals (w.next ∷ []) m ∙ ap (λ b. is_among normals m || (b || false)) (more_other w.next m lt) ∙ or_false (is_among normals m) ∙ k.normal_agrees m lt
-      | inr ge ↦ (let same : w.next ≡ m = omega (arith, l, ge) in subst (λ i. is_among (normals ++ w.next ∷ []) i ≡ N i) same (among_here normals [] w.next ∙ sym is_n))
+      | inl lt ↦ among_append normals (w.next ∷ []) m ∙ ap (λ b. is_among normals m || (b || false)) (more_other w.next m lt)
+          ∙ or_false (is_among normals m) ∙ k.normal_agrees m lt
+      | inr ge ↦ (let same : w.next ≡ m = omega (arith, l, ge) in subst (λ i. is_among (normals ++ w.next ∷ []) i ≡ N i) same
+          (among_here normals [] w.next ∙ sym is_n))
     ]
 
     low_agrees : (m : ℕ) → m < w.next + 1 → is_among lows m ≡ L m
@@ -226,7 +230,8 @@ run_low : (N L : ℕ → Bool) (limit : ℕ) (all normals lows runs now : List �
     → Numbers N L limit all normals lows (runs ++ n ∷ []) (now ++ n ∷ []) v
 run_low N L limit all normals lows runs now w v n r k =
     turn L N limit all lows normals (runs ++ n ∷ []) (now ++ n ∷ []) (turned v)
-    (run_normal L N limit all lows normals runs now (turned w) (turned v) n (record { front = r.front; under = r.under; then = ap turned r.then }) (turn N L limit all normals lows runs now w k))
+    (run_normal L N limit all lows normals runs now (turned w) (turned v) n (record { front = r.front; under = r.under; then = ap turned r.then })
+    (turn N L limit all normals lows runs now w k))
 
 cycle_again : (N L : ℕ → Bool) (limit : ℕ) (all normals lows runs now : List ℕ) (w : Waiting) → Numbers N L limit all normals lows runs now w
     → Numbers N L limit all normals lows runs [] (new_cycle w)
@@ -278,6 +283,7 @@ role (entry.Join r i) = is_plain (refl, refl, refl, refl, λ b a. tt, λ l b a. 
 role (entry.Print z) = is_plain (refl, refl, refl, refl, λ b a. tt, λ l b a. tt, λ now. refl, λ now a. refl, λ l w u f. f, λ N L. tt)
 role (entry.Monitor m p) = is_plain (refl, refl, refl, refl, λ b a. tt, λ l b a. tt, λ now. refl, λ now a. refl, λ l w u f. f, λ N L. tt)
 role (entry.Detach m) = is_plain (refl, refl, refl, refl, λ b a. tt, λ l b a. tt, λ now. refl, λ now a. refl, λ l w u f. f, λ N L. tt)
+role (entry.Attach m) = is_plain (refl, refl, refl, refl, λ b a. tt, λ l b a. tt, λ now. refl, λ now a. refl, λ l w u f. f, λ N L. tt)
 role (entry.Error x m) = is_plain (refl, refl, refl, refl, λ b a. tt, λ l b a. tt, λ now. refl, λ now a. refl, λ l w u f. f, λ N L. tt)
 role (entry.Caught m) = is_plain (refl, refl, refl, refl, λ b a. tt, λ l b a. tt, λ now. refl, λ now a. refl, λ l w u f. f, λ N L. tt)
 role (entry.Rest x) = is_plain (refl, refl, refl, refl, λ b a. tt, λ l b a. tt, λ now. refl, λ now a. refl, λ l w u f. f, λ N L. tt)
@@ -333,7 +339,8 @@ yields_so : (N L : ℕ → Bool) (limit : ℕ) (before now : List Entry) (w : Wa
     → (w.normal ≡ []) ⊎ (limit ≤ w.normal_ran) → Yields limit b before
 yields_so N L limit before now w false k h = tt
 yields_so N L limit before now w true k (inl none) =
-    let whole : filter N (ran before) ≡ normal before = sym (append-nil (filter N (ran before))) ∙ ap (λ (xs : List ℕ). filter N (ran before) ++ xs) (sym none) ∙ k.numbers.normal_is
+    let whole : filter N (ran before) ≡ normal before = sym (append-nil (filter N (ran before)))
+    ∙ ap (λ (xs : List ℕ). filter N (ran before) ++ xs) (sym none) ∙ k.numbers.normal_is
     in inl (subst (λ (xs : List ℕ). list_all (is_among (ran before)) xs ≡ true) whole (all_kept N [] (ran before)))
 yields_so N L limit before now w true k (inr full) =
     let agree : AllByRecursion (λ m. is_among (normal before) m ≡ N m) (ran now) =
@@ -431,13 +438,15 @@ run_one N L limit n es ih before now w u v k (inl r) l =
     in let later : Lawful N L limit (before ++ entry.Job n ∷ []) (now ++ entry.Job n ∷ []) es =
     ih (before ++ entry.Job n ∷ []) (now ++ entry.Job n ∷ []) u v
     (run_known N L limit before now n w u k (run_normal N L limit (enqueued before) (normal before) (low before) (ran before) (ran now) w u n r k.numbers)) l
-    in added N L limit before now (now ++ entry.Job n ∷ []) (entry.Job n) es (k.numbers.has n waits.0.0) (yields_normal L limit n before (k.numbers.low_agrees n waits.0.0) waits.0.2) later.within later
+    in added N L limit before now (now ++ entry.Job n ∷ []) (entry.Job n) es (k.numbers.has n waits.0.0)
+    (yields_normal L limit n before (k.numbers.low_agrees n waits.0.0) waits.0.2) later.within later
 run_one N L limit n es ih before now w u v k (inr r) l =
     let waits : AllByRecursion (IsNormal L N w.next) (n ∷ u.low) = subst (AllByRecursion (IsNormal L N w.next)) r.front k.numbers.low_waits
     in let later : Lawful N L limit (before ++ entry.Job n ∷ []) (now ++ entry.Job n ∷ []) es =
     ih (before ++ entry.Job n ∷ []) (now ++ entry.Job n ∷ []) u v
     (run_known N L limit before now n w u k (run_low N L limit (enqueued before) (normal before) (low before) (ran before) (ran now) w u n r k.numbers)) l
-    in added N L limit before now (now ++ entry.Job n ∷ []) (entry.Job n) es (k.numbers.has n waits.0.0) (yields_so N L limit before now w (is_among (low before) n) k r.none_before) later.within later
+    in added N L limit before now (now ++ entry.Job n ∷ []) (entry.Job n) es (k.numbers.has n waits.0.0)
+    (yields_so N L limit before now w (is_among (low before) n) k r.none_before) later.within later
 
 enqueue_one : (N L : ℕ → Bool) (limit n : ℕ) (low : Bool) (es : List Entry) → IsTold N L (entry.Enq n low) → Continues N L limit es
     → (before now : List Entry) (w u v : Waiting) → Known N L limit before now w
@@ -449,7 +458,8 @@ enqueue_one N L limit n low es told ih before now w u v k f l =
     in let later : Lawful N L limit (before ++ entry.Enq n low ∷ []) (now ++ entry.Enq n low ∷ []) es =
     ih (before ++ entry.Enq n low ∷ []) (now ++ entry.Enq n low ∷ []) u v
     (subst (λ m. Known N L limit (before ++ entry.Enq m low ∷ []) (now ++ entry.Enq m low ∷ []) u) (sym f.0)
-    (subst (λ x. Known N L limit (before ++ entry.Enq w.next low ∷ []) (now ++ entry.Enq w.next low ∷ []) x) (sym (f.1 ∙ ap (λ m. with_waiting low m w) f.0)) known)) l
+    (subst (λ x. Known N L limit (before ++ entry.Enq w.next low ∷ []) (now ++ entry.Enq w.next low ∷ []) x)
+    (sym (f.1 ∙ ap (λ m. with_waiting low m w) f.0)) known)) l
     in added N L limit before now (now ++ entry.Enq n low ∷ []) (entry.Enq n low) es (f.0 ∙ sym k.numbers.count) tt later.within later
 
 one : (N L : ℕ → Bool) (limit : ℕ) (e : Entry) (es : List Entry) → Role e → IsTold N L e → Continues N L limit es
@@ -458,7 +468,8 @@ one : (N L : ℕ → Bool) (limit : ℕ) (e : Entry) (es : List Entry) → Role 
 one N L limit e es (is_plain p) told ih before now w u v k f l =
     let later : Lawful N L limit (before ++ e ∷ []) (now ++ e ∷ []) es =
     ih (before ++ e ∷ []) (now ++ e ∷ []) w v (plain_known N L limit before now e w p k) (subst (λ x. Leads limit es x v) (p.8 limit w u f) l)
-    in added N L limit before now (now ++ e ∷ []) e es (p.4 before es) (p.5 limit before es) (subst (AllByRecursion (Few N L limit)) (sym (p.7 now es)) later.within) later
+    in added N L limit before now (now ++ e ∷ []) e es (p.4 before es) (p.5 limit before es)
+    (subst (AllByRecursion (Few N L limit)) (sym (p.7 now es)) later.within) later
 one N L limit e es (is_enqueue n low eq) told ih before now w u v k f l =
     subst (λ x. Lawful N L limit before now (x ∷ es)) (sym eq)
     (enqueue_one N L limit n low es (subst (IsTold N L) eq told) ih before now w u v k (subst (λ x. Follows limit x w u) eq f) l)
@@ -477,8 +488,10 @@ lawful N L limit [] told before now w v k l =
       numbered = tt;
       yields = tt;
       within = (few_now N L limit before now w k, tt);
-      normals = subst (λ (all : List Entry). IsFront (filter N (ran all)) (normal all)) (sym (append-nil before)) (front (filter N (ran before)) w.normal (normal before) k.numbers.normal_is);
-      lows = subst (λ (all : List Entry). IsFront (filter L (ran all)) (low all)) (sym (append-nil before)) (front (filter L (ran before)) w.low (low before) k.numbers.low_is);
+      normals = subst (λ (all : List Entry). IsFront (filter N (ran all)) (normal all)) (sym (append-nil before))
+          (front (filter N (ran before)) w.normal (normal before) k.numbers.normal_is);
+      lows = subst (λ (all : List Entry). IsFront (filter L (ran all)) (low all)) (sym (append-nil before))
+          (front (filter L (ran before)) w.low (low before) k.numbers.low_is);
     }
 lawful N L limit (e ∷ es) told before now w v k l = one N L limit e es (role e) told.0 (lawful N L limit es told.1) before now w l.0 v k l.1 l.2
 
@@ -491,8 +504,10 @@ record Later (w : Waiting) (es : List Entry) : Type 0 where
 later_one : (limit : ℕ) (e : Entry) (es : List Entry) (w u : Waiting) → Role e → Follows limit e w u → Later u es → Later w (e ∷ es)
 later_one limit e es w u (is_plain p) f h =
     record {
-      normals = subst (λ (o : Option ℕ). AllByRecursion (λ m. w.next ≤ m) (cons_option o (normal es))) (sym p.1) (subst (λ (x : Waiting). AllByRecursion (λ m. x.next ≤ m) (normal es)) (p.8 limit w u f) h.normals);
-      lows = subst (λ (o : Option ℕ). AllByRecursion (λ m. w.next ≤ m) (cons_option o (low es))) (sym p.2) (subst (λ (x : Waiting). AllByRecursion (λ m. x.next ≤ m) (low es)) (p.8 limit w u f) h.lows);
+      normals = subst (λ (o : Option ℕ). AllByRecursion (λ m. w.next ≤ m) (cons_option o (normal es))) (sym p.1)
+          (subst (λ (x : Waiting). AllByRecursion (λ m. x.next ≤ m) (normal es)) (p.8 limit w u f) h.normals);
+      lows = subst (λ (o : Option ℕ). AllByRecursion (λ m. w.next ≤ m) (cons_option o (low es))) (sym p.2)
+          (subst (λ (x : Waiting). AllByRecursion (λ m. x.next ≤ m) (low es)) (p.8 limit w u f) h.lows);
     }
 later_one limit e es w u (is_enqueue n is_low eq) f h =
     subst (λ x. Later w (x ∷ es)) (sym eq) (by is_low (subst (λ x. Follows limit x w u) eq f))
@@ -511,7 +526,11 @@ later_one limit e es w u (is_run n eq) f h =
     subst (λ x. Later w (x ∷ es)) (sym eq) (by (subst (λ x. Follows limit x w u) eq f))
   where
     same : w.next ≡ u.next → Later w (entry.Job n ∷ es)
-    same e = record { normals = subst (λ k. AllByRecursion (λ m. k ≤ m) (normal es)) (sym e) h.normals; lows = subst (λ k. AllByRecursion (λ m. k ≤ m) (low es)) (sym e) h.lows }
+    same e =
+        record {
+          normals = subst (λ k. AllByRecursion (λ m. k ≤ m) (normal es)) (sym e) h.normals;
+          lows = subst (λ k. AllByRecursion (λ m. k ≤ m) (low es)) (sym e) h.lows;
+        }
 
     by : RunsNormal limit n w u ⊎ RunsLow limit n w u → Later w (entry.Job n ∷ es)
     by (inl r) = same (sym (ap (λ (x : Waiting). x.next) r.then))
@@ -519,7 +538,10 @@ later_one limit e es w u (is_run n eq) f h =
 later_one limit e es w u (is_new eq) f h =
     let same : u.next ≡ w.next = ap (λ (x : Waiting). x.next) (subst (λ x. Follows limit x w u) eq f)
     in subst (λ x. Later w (x ∷ es)) (sym eq)
-    (record { normals = subst (λ k. AllByRecursion (λ m. k ≤ m) (normal es)) same h.normals; lows = subst (λ k. AllByRecursion (λ m. k ≤ m) (low es)) same h.lows })
+    (record {
+      normals = subst (λ k. AllByRecursion (λ m. k ≤ m) (normal es)) same h.normals;
+      lows = subst (λ k. AllByRecursion (λ m. k ≤ m) (low es)) same h.lows;
+    })
 
 later : (limit : ℕ) (es : List Entry) (w v : Waiting) → Leads limit es w v → Later w es
 later limit [] w v l = record { normals = tt; lows = tt }
@@ -565,7 +587,11 @@ told_one N L limit e es w u (is_enqueue n is_low eq) f h t =
           λ m l. let there = t m (omega (arith, l, next, f.0)) in (there.0, there.1 ∙ past next (low es) m l),
         )
 told_one N L limit e es w u (is_run n eq) f h t =
-    subst (λ x. IsTold N L x × Tells N L u.next es) (sym eq) (tt, subst (λ k. Tells N L k es) (by (subst (λ x. Follows limit x w u) eq f)) (subst (λ x. Tells N L w.next (x ∷ es)) eq t))
+    subst (λ x. IsTold N L x × Tells N L u.next es) (sym eq) (
+      tt,
+      subst (λ k. Tells N L k es) (by (subst (λ x. Follows limit x w u) eq f))
+          (subst (λ x. Tells N L w.next (x ∷ es)) eq t),
+    )
   where
     by : RunsNormal limit n w u ⊎ RunsLow limit n w u → w.next ≡ u.next
     by (inl r) = sym (ap (λ (x : Waiting). x.next) r.then)

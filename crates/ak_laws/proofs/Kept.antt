@@ -1,23 +1,24 @@
 -- What the small changes of a state keep, each operation keeps.
 use Rattle.std.proofs.Common.{ℕ, ℤ, ◌≡◌, List, [], ◌∷◌, Bool, true, false, Option, Some, None, refl, fold}
-use Rattle.std.specs.Prelude.{pos, filter, length, map, if◌then◌else◌, ◌==◌, ◌+◌}
+use Rattle.std.specs.Prelude.{pos, length, map, if◌then◌else◌, ◌==◌, ◌+◌}
 use Rattle.ak_base.specs.declared.number.Ctx.{Ctx}
 use Rattle.ak_labor.specs.declared.work.Work.{Work}
-use Rattle.ak_cells.specs.declared.registration.Registration.{Registration}
-use Rattle.ak_cells.specs.Cells.{waiting_on, filled}
-use Rattle.ak_rings.specs.Queues.{recounted}
+use Rattle.ak_cells.specs.Cells.{waiting_on}
 use Rattle.ak_monitor.specs.Monitors.{monitor_in, catcher, path, up_to}
-use Rattle.ak_choice.specs.Groups as groups
+use Rattle.ak_script.specs.declared.statement.GuardMode.{GuardMode}
+use Rattle.ak_script.specs.declared.statement.GuardMode.TheVariants as mode
 use Rattle.ak_clock.specs.declared.alarm.Alarm.{Alarm}
 use Rattle.ak_clock.specs.Clock as clock
-use Rattle.ak_throttle.specs.declared.stage.Mark.{Mark}
+use Rattle.ak_throttle.specs.declared.answer.Enqueued.{Enqueued}
+use Rattle.ak_throttle.specs.declared.answer.Enqueued.TheVariants as placed
 use Rattle.ak_throttle.specs.Throttle as throttle
-use Rattle.ak_pipe.specs.declared.flush.Flush.{Flush}
+use Rattle.ak_pipe.specs.declared.answer.Got.{Got}
+use Rattle.ak_pipe.specs.declared.answer.Got.TheVariants.{Item, Eof, Waits}
 use Rattle.ak_pipe.specs.Pipe as pipe
 use Rattle.ak_frames.specs.declared.value.Value.{Value}
 use Rattle.ak_frames.specs.declared.value.Value.TheVariants.{Num}
 use Rattle.ak_frames.specs.declared.frame.Ret.{Ret}
-use Rattle.ak_frames.specs.declared.frame.Ret.TheVariants.{Drop, To, TryBody, ThrottleBody}
+use Rattle.ak_frames.specs.declared.frame.Ret.TheVariants.{To, TryBody, ThrottleBody}
 use Rattle.ak_frames.specs.declared.frame.Frame.{Frame}
 use Rattle.ak_frames.specs.declared.frame.Frame.TheVariants.{AllPart, ChoicePart, TryDone, BodyDone}
 use Rattle.ak_frames.specs.declared.frame.Task.{Task}
@@ -40,14 +41,13 @@ use Rattle.ak_machine.specs.declared.held.Fate.TheVariants.{Undecided, Failing, 
 use Rattle.ak_machine.specs.declared.held.Read.{Read}
 use Rattle.ak_machine.specs.State.{State}
 use Rattle.ak_machine.specs.Mapped.{state_renamed}
-use Rattle.ak_machine.specs.Deferred as deferred
-use Rattle.ak_machine.specs.Deferred.{noting, enqueue, called, number_at, fill, fill_at, fill_empty, filled_with, woken_by, register, register_at, connect, connect_at}
+use Rattle.ak_machine.specs.Deferred.{noting, enqueue, called, number_at, fill, fill_at, fill_empty, filled_with, filled_where, woken_by, register, register_at, connect, connect_at}
 use Rattle.ak_machine.specs.Monitors as monitors
 use Rattle.ak_machine.specs.Groups as group
 use Rattle.ak_machine.specs.Throttles as throttles
 use Rattle.ak_machine.specs.Pipes as pipes
 use Rattle.ak_machine.specs.Alarms as alarms
-use Rattle.ak_machine.specs.Errors.{After, going_on, stopped, next_errors_filled, acted, handler_acts, handled, caught_at, send}
+use Rattle.ak_machine.specs.Errors.{stopped, next_errors_filled, acted, handler_acts, handled, caught_at, send}
 use Rattle.ak_machine.specs.Works as works
 
 -- an entry that says nothing of jobs, of cycles or of the end
@@ -57,6 +57,7 @@ IsQuiet (entry.Join r i) = Unit {0}
 IsQuiet (entry.Print z) = Unit {0}
 IsQuiet (entry.Monitor m p) = Unit {0}
 IsQuiet (entry.Detach m) = Unit {0}
+IsQuiet (entry.Attach m) = Unit {0}
 IsQuiet (entry.Error e m) = Unit {0}
 IsQuiet (entry.Caught m) = Unit {0}
 IsQuiet (entry.Rest e) = Unit {0}
@@ -113,6 +114,10 @@ module _ (P : State → Type 0) (k : Kept P) where
   pub fill_keeps : (i : ℕ) (v : ℤ) (s : State) → P s → P (fill i v s)
   fill_keeps i v s p = fill_at_keeps (number_at i s) i v s p
 
+  pub filled_where_keeps : (b : Bool) (i : ℕ) (s : State) → P s → P (filled_where b i s)
+  filled_where_keeps true i s p = fill_keeps i (pos 0) s p
+  filled_where_keeps false i s p = p
+
   register_at_keeps : (o : Option ℤ) (i : ℕ) (ctx : Ctx) (frame : Frame) (s : State) → P s → P (register_at o i ctx frame s)
   register_at_keeps (Some v) i ctx frame s p = k.enq ctx _ s p
   register_at_keeps None i ctx frame s p = k.change s _ refl refl p
@@ -134,6 +139,9 @@ module _ (P : State → Type 0) (k : Kept P) where
 
   pub detach_keeps : (m : ℕ) (s : State) → P s → P (monitors.detach m s)
   detach_keeps m s p = k.note (entry.Detach m) _ tt (k.change s _ refl refl p)
+
+  attach_keeps : (m : ℕ) (s : State) → P s → P (monitors.attach m s)
+  attach_keeps m s p = k.note (entry.Attach m) _ tt (k.change s _ refl refl p)
 
   called_under_keeps : (h : Handler) (ctx : Ctx) (proc : ℕ) (vals : List Value) (ret : Ret) (s : State) → P s → P (monitors.called_under h ctx proc vals ret s)
   called_under_keeps h ctx proc vals ret s p =
@@ -165,27 +173,35 @@ module _ (P : State → Type 0) (k : Kept P) where
   choice_begun_keeps ctx cs vals r s p =
       choice_registered_keeps ctx (length s.groups) (map group.deferred_of cs) _ (k.change s _ refl refl p)
 
-  pub try_begun_keeps : (ctx : Ctx) (proc : ℕ) (vals : List Value) (c : Callback) (s : State) → P s → P (group.try_begun ctx proc vals c s)
-  try_begun_keeps ctx proc vals c s p =
+  pub try_begun_keeps : (ctx : Ctx) (kind : GuardMode) (proc : ℕ) (vals : List Value) (c : Callback) (s : State) → P s
+      → P (group.try_begun ctx kind proc vals c s)
+  try_begun_keeps ctx kind proc vals c s p =
       called_under_keeps (OfGuard (length s.groups)) ctx proc vals (TryBody (length s.groups)) _ (k.change s _ refl refl p)
 
+  left_by_guard_keeps : (kind : GuardMode) (m : ℕ) (s : State) → P s → P (group.left_by_guard kind m s)
+  left_by_guard_keeps mode.Drop m s p = p
+  left_by_guard_keeps mode.Raise m s p = attach_keeps m s p
+
+  guard_decided_keeps : (kind : GuardMode) (m g : ℕ) (s : State) → P s → P (group.guard_decided kind m g s)
+  guard_decided_keeps kind m g s p = left_by_guard_keeps kind m _ (k.change s (group.decided g s) refl refl p)
+
   guard_catches_keeps : (q : Purpose) (b : Bool) (g : ℕ) (e : ℤ) (s : State) → P s → P (group.guard_catches q b g e s)
-  guard_catches_keeps (ForGuard ctx c) false g e s p = k.enq ctx _ _ (k.change s _ refl refl p)
-  guard_catches_keeps (ForGuard ctx c) true g e s p = k.note (entry.Rest e) s tt p
+  guard_catches_keeps (ForGuard ctx m kind c) false g e s p = k.enq ctx _ _ (guard_decided_keeps kind m g s p)
+  guard_catches_keeps (ForGuard ctx m kind c) true g e s p = k.note (entry.Rest e) s tt p
   guard_catches_keeps (ForAll c) b g e s p = p
   guard_catches_keeps (ForAny ds r) b g e s p = p
   guard_catches_keeps (ForChoice choices vals r) b g e s p = p
 
   guard_filled_keeps : (q : Purpose) (b : Bool) (g : ℕ) (v : ℤ) (s : State) → P s → P (group.guard_filled q b g v s)
-  guard_filled_keeps (ForGuard ctx c) false g v s p = fill_keeps c.to v _ (k.change s _ refl refl p)
-  guard_filled_keeps (ForGuard ctx c) true g v s p = p
+  guard_filled_keeps (ForGuard ctx m kind c) false g v s p = fill_keeps c.to v _ (guard_decided_keeps kind m g s p)
+  guard_filled_keeps (ForGuard ctx m kind c) true g v s p = p
   guard_filled_keeps (ForAll c) b g v s p = p
   guard_filled_keeps (ForAny ds r) b g v s p = p
   guard_filled_keeps (ForChoice choices vals r) b g v s p = p
 
   guard_waits_keeps : (q : Purpose) (b : Bool) (g i : ℕ) (s : State) → P s → P (group.guard_waits q b g i s)
-  guard_waits_keeps (ForGuard ctx c) false g i s p = register_keeps i ctx (TryDone g) s p
-  guard_waits_keeps (ForGuard ctx c) true g i s p = p
+  guard_waits_keeps (ForGuard ctx m kind c) false g i s p = register_keeps i ctx (TryDone g) s p
+  guard_waits_keeps (ForGuard ctx m kind c) true g i s p = p
   guard_waits_keeps (ForAll c) b g i s p = p
   guard_waits_keeps (ForAny ds r) b g i s p = p
   guard_waits_keeps (ForChoice choices vals r) b g i s p = p
@@ -205,10 +221,14 @@ module _ (P : State → Type 0) (k : Kept P) where
   front_called_keeps t None s p = p
   front_called_keeps t (Some front) s p = body_called_keeps _ front.1 s p
 
+  body_placed_keeps : (x : Enqueued Body) (t : ℕ) (s : State) → P s → P (throttles.body_placed x t s)
+  body_placed_keeps (placed.Start n body) t s p = body_called_keeps _ body s p
+  body_placed_keeps (placed.Waits n) t s p = p
+
   pub body_enqueued_keeps : (t : ℕ) (body : Body) (s : State) → P s → P (throttles.body_enqueued t body s)
   body_enqueued_keeps t body s p =
-      if_keeps (throttle.has_room (throttles.throttle_at t s)) _ _
-      (body_called_keeps _ body _ (k.change s _ refl refl p)) (k.change s _ refl refl p)
+      body_placed_keeps (throttle.placed body (throttles.throttle_at t s)) t
+      (throttles.with_throttle_at t (throttle.enqueued body (throttles.throttle_at t s)) s) (k.change s _ refl refl p)
 
   marks_filled_keeps : (t : ℕ) (s : State) → P s → P (throttles.marks_filled t s)
   marks_filled_keeps t s p =
@@ -217,7 +237,7 @@ module _ (P : State → Type 0) (k : Kept P) where
 
   pub done_awaited_keeps : (t i : ℕ) (s : State) → P s → P (throttles.done_awaited t i s)
   done_awaited_keeps t i s p =
-      if_keeps (throttle.is_done (throttles.throttle_at t s)) _ _ (fill_keeps i (pos 0) s p) (k.change s _ refl refl p)
+      filled_where_keeps (throttle.is_done (throttles.throttle_at t s)) i _ (k.change s _ refl refl p)
 
   body_left_keeps : (b : BodyId) (s : State) → P s → P (throttles.body_left b s)
   body_left_keeps b s p =
@@ -280,9 +300,12 @@ module _ (P : State → Type 0) (k : Kept P) where
   pub put_keeps : (i : ℕ) (v : ℤ) (s : State) → P s → P (pipes.put i v s)
   put_keeps i v s p = taken_by_keeps (pipe.taker_of (pipes.pipe_at i s)) v _ (k.change s _ refl refl p)
 
-  pub pushed_back_keeps : (i r : ℕ) (s : State) → P s → P (pipes.pushed_back i r s)
-  pushed_back_keeps i r s p =
-      if_keeps (pipe.is_free (pipes.pipe_at i s)) _ _ (fill_keeps r (pos 0) s p) (k.change s _ refl refl p)
+  pub write_keeps : (i r : ℕ) (v : ℤ) (s : State) → P s → P (pipes.write i r v s)
+  write_keeps i r v s p =
+      let x : pipe.Pipe Read = pipes.pipe_at i s
+      in let after : State = pipes.with_pipe_at i (pipe.after_write v r x) s
+      in filled_where_keeps (pipe.is_free (pipe.put v x)) r (pipes.taken_by (pipe.taker_of x) v after)
+      (taken_by_keeps (pipe.taker_of x) v after (k.change s after refl refl p))
 
   pushbacks_freed_keeps : (i : ℕ) (s : State) → P s → P (pipes.pushbacks_freed i s)
   pushbacks_freed_keeps i s p =
@@ -294,17 +317,18 @@ module _ (P : State → Type 0) (k : Kept P) where
       fold_keeps (pipes.flush_filled (pipes.pipe_at i s)) (λ u flush q. fill_keeps flush.ivar _ u q)
       (pipe.settled_flushes (pipes.pipe_at i s)) _ (k.change s _ refl refl p)
 
-  read_from_keeps : (items : List ℤ) (i : ℕ) (r : Read) (s : State) → P s → P (pipes.read_from items i r s)
-  read_from_keeps (v ∷ items) i r s p =
-      let one : State = pipes.consumed_one i s
-      in let freed : State = pipes.pushbacks_freed i one
+  got_keeps : (x : Got Read) (i : ℕ) (s : State) → P s → P (pipes.got_for x i s)
+  got_keeps (Item v r) i s p =
+      let freed : State = pipes.pushbacks_freed i s
       in called_keeps r.ctx r.item.proc (Num v ∷ r.item.vals) (To r.item.to) (pipes.flushes_settled i freed)
-      (flushes_settled_keeps i freed (pushbacks_freed_keeps i one (k.change s one refl refl p)))
-  read_from_keeps [] i r s p =
-      if_keeps (pipes.pipe_at i s).closed _ _ (called_keeps r.ctx r.eof.proc r.eof.vals (To r.eof.to) s p) (k.change s _ refl refl p)
+      (flushes_settled_keeps i freed (pushbacks_freed_keeps i s p))
+  got_keeps (Eof r) i s p = called_keeps r.ctx r.eof.proc r.eof.vals (To r.eof.to) s p
+  got_keeps Waits i s p = p
 
   pub read_keeps : (i : ℕ) (r : Read) (s : State) → P s → P (pipes.read i r s)
-  read_keeps i r s p = read_from_keeps (pipe.items_of (pipes.pipe_at i s)) i r s p
+  read_keeps i r s p =
+      got_keeps (pipe.got r (pipes.pipe_at i s)) i (pipes.with_pipe_at i (pipe.after_read r (pipes.pipe_at i s)) s)
+      (k.change s _ refl refl p)
 
   eofs_called_keeps : (i : ℕ) (s : State) → P s → P (pipes.eofs_called i s)
   eofs_called_keeps i s p =
@@ -322,12 +346,14 @@ module _ (P : State → Type 0) (k : Kept P) where
       in eofs_called_keeps i (pipes.flushes_settled i freed)
       (flushes_settled_keeps i freed (pushbacks_freed_keeps i after (k.change s after refl refl p)))
 
-  flushed_at_keeps : (o : Option ℤ) (i r : ℕ) (s : State) → P s → P (pipes.flushed_at o i r s)
-  flushed_at_keeps (Some v) i r s p = fill_keeps r v s p
-  flushed_at_keeps None i r s p = k.change s _ refl refl p
+  learned_keeps : (o : Option ℤ) (r : ℕ) (s : State) → P s → P (pipes.learned o r s)
+  learned_keeps (Some v) r s p = fill_keeps r v s p
+  learned_keeps None r s p = p
 
   pub flushed_keeps : (i r : ℕ) (s : State) → P s → P (pipes.flushed i r s)
-  flushed_keeps i r s p = flushed_at_keeps (pipe.flushed_at_once (pipes.pipe_at i s)) i r s p
+  flushed_keeps i r s p =
+      learned_keeps (pipe.flushed_at_once (pipes.pipe_at i s)) r
+      (pipes.with_pipe_at i (pipe.after_flushed r (pipes.pipe_at i s)) s) (k.change s _ refl refl p)
 
   -- ---- alarms
   aborted_at_keeps : (o : Option Alarm) (s : State) → P s → P (alarms.aborted_at o s)

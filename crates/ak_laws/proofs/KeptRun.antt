@@ -1,11 +1,10 @@
 -- What the small changes of a state keep, a whole run keeps.
-use Rattle.std.proofs.Common.{ℕ, ℤ, ◌≡◌, List, [], ◌∷◌, ◌++◌, Bool, true, false, Option, Some, None, refl, sym, subst, fold}
-use Rattle.std.specs.Prelude.{pos, filter, find, length, map, nat_le, int_lt, ◌+ℤ◌, ◌+◌, if◌then◌else◌, slice_index_or}
+use Rattle.std.proofs.Common.{ℕ, ℤ, ◌≡◌, List, [], ◌∷◌, Bool, true, false, Option, Some, None, refl, sym, subst, fold}
+use Rattle.std.specs.Prelude.{pos, filter, find, length, map, nat_le, Result, Ok, Err, ◌+ℤ◌, if◌then◌else◌}
 use Rattle.ak_base.specs.Lists.{is_empty_list}
 use Rattle.ak_base.specs.declared.number.Ctx.{Ctx}
 use Rattle.ak_labor.specs.declared.ask.Ask.{Ask}
 use Rattle.ak_labor.specs.declared.ask.Ask.TheVariants as ask
-use Rattle.ak_labor.specs.declared.work.Work.{Work}
 use Rattle.ak_labor.specs.declared.work.WorkKind.{WorkKind}
 use Rattle.ak_labor.specs.declared.work.Outcome.{Outcome}
 use Rattle.ak_labor.specs.declared.work.Outcome.TheVariants.{Good, Bad}
@@ -19,7 +18,6 @@ use Rattle.ak_frames.specs.declared.frame.Ret.TheVariants.{Drop, To, TryBody, Th
 use Rattle.ak_frames.specs.declared.frame.Frame.{Frame}
 use Rattle.ak_frames.specs.declared.frame.Frame.TheVariants as frame
 use Rattle.ak_frames.specs.declared.frame.Task.{Task}
-use Rattle.ak_trace.specs.declared.entry.Entry.{Entry}
 use Rattle.ak_trace.specs.declared.entry.Entry.TheVariants as entry
 use Rattle.ak_trace.specs.declared.entry.Ending.{Ending}
 use Rattle.ak_trace.specs.declared.entry.Ending.TheVariants as ending
@@ -27,6 +25,9 @@ use Rattle.ak_program.specs.declared.statement.NumStmt.{NumStmt}
 use Rattle.ak_program.specs.declared.statement.NumStmt.TheVariants as stmt
 use Rattle.ak_program.specs.declared.program.NumProc.{NumProc}
 use Rattle.ak_program.specs.declared.program.NumStatement.{NumStatement}
+use Rattle.ak_clock.specs.declared.alarm.TickRefused.{TickRefused}
+use Rattle.ak_clock.specs.declared.alarm.TickRefused.TheVariants.{Negative, Overflow}
+use Rattle.ak_clock.specs.Clock.{fits, ticked}
 use Rattle.ak_machine.specs.declared.config.Config.{Config}
 use Rattle.ak_machine.specs.declared.config.Flow.{Flow}
 use Rattle.ak_machine.specs.declared.config.Flow.TheVariants as flow
@@ -35,20 +36,19 @@ use Rattle.ak_machine.specs.declared.held.Outstanding.{Outstanding}
 use Rattle.ak_machine.specs.declared.held.Purpose.{Purpose}
 use Rattle.ak_machine.specs.declared.held.Purpose.TheVariants.{ForAll, ForAny, ForChoice, ForGuard}
 use Rattle.ak_machine.specs.State.{State, initial_state}
-use Rattle.ak_machine.specs.Number.{Computed, Gives, Overflows, DividesByZero, computed, fits}
-use Rattle.ak_machine.specs.Deferred.{noting, called, number_at, fill, register, is_empty, with_ivar}
+use Rattle.ak_machine.specs.Number.{Computed, Gives, Overflows, DividesByZero, computed}
+use Rattle.ak_machine.specs.Deferred.{noting, is_empty, with_ivar}
 use Rattle.ak_machine.specs.Groups.{group_at, purpose_at, part_at, part_set, all_call, choice_decided, first_number, first_call}
 use Rattle.ak_machine.specs.Throttles.{throttle_at, body_failed}
 use Rattle.ak_machine.specs.Pipes.{pipe_at}
 use Rattle.ak_machine.specs.Errors.{After, going_on, stopped, send}
 use Rattle.ak_machine.specs.Works.{is_active, helper_at, with_helper}
 use Rattle.ak_machine.specs.Effect.{Effect, Goes, Raises, Returns, Stops, Ends, Asks, name_in, number_in, args_of, call_to_fresh, holds}
-use Rattle.ak_machine.specs.Statement.{choosable, set_effect, work_effect, sent_effect, alarm_effect, tick_effect, effect_of, line_effect}
-use Rattle.ak_machine.specs.Job as job
-use Rattle.ak_machine.specs.Job.{Rest, Progress, Over, Asking, returned, number_returned, deferred_returned, run_lines, run_call, run_call_if, run_all_part, run_part, run_choice, run_frame, run_job, filled_if, lines_of}
+use Rattle.ak_machine.specs.Statement.{choosable, set_effect, work_effect, sent_effect, tick_effect, effect_of, line_effect}
+use Rattle.ak_machine.specs.Job.{Rest, Progress, Over, Asking, returned, number_returned, deferred_returned, run_lines, run_call_if, run_all_part, run_part, run_choice, run_frame, filled_if, lines_of}
 use Rattle.ak_machine.specs.Cycle.{cycle_begun, has_more, is_stuck, outcome_given, arrival_of, arrive, arrive_all, is_work, is_other_work}
 use Rattle.ak_machine.specs.Run.{Place, AtDrain, AtJob, AtClose, Ended as HasClosed, Wrong, Machine, went, progressed, cycle_ended, picked, drained, gone_on, job_answered, stepped_at, stepped, begun, machine_after}
-use Rattle.ak_laws.proofs.Kept.{Kept, Ended, AfterHas, if_keeps, called_keeps, fill_keeps, register_keeps, connect_keeps, with_monitor_keeps, detach_keeps, all_begun_keeps, any_begun_keeps, choice_begun_keeps, try_begun_keeps, try_done_keeps, try_waits_keeps, body_enqueued_keeps, done_awaited_keeps, body_ended_keeps, body_waits_keeps, body_failed_keeps, put_keeps, pushed_back_keeps, read_keeps, close_keeps, close_read_keeps, flushed_keeps, abort_keeps, yields_filled_keeps, alarms_filled_keeps, send_keeps, stopped_keeps, submitted_keeps, with_helper_keeps}
+use Rattle.ak_laws.proofs.Kept.{Kept, Ended, AfterHas, called_keeps, fill_keeps, register_keeps, connect_keeps, with_monitor_keeps, detach_keeps, all_begun_keeps, any_begun_keeps, choice_begun_keeps, try_begun_keeps, try_done_keeps, try_waits_keeps, body_enqueued_keeps, done_awaited_keeps, body_ended_keeps, body_waits_keeps, body_failed_keeps, put_keeps, write_keeps, read_keeps, close_keeps, close_read_keeps, flushed_keeps, abort_keeps, yields_filled_keeps, alarms_filled_keeps, send_keeps, stopped_keeps, submitted_keeps, with_helper_keeps}
 
 -- what a statement leaves
 abbrev pub EffectHas : (P : State → Type 0) → Effect → Type 0
@@ -111,6 +111,11 @@ module _ (P : State → Type 0) (k : Kept P) where
       by flow.Stopped q = q
       by (flow.Unhandled e) q = q
 
+  tick_keeps : (x : Result (Unit {0}) TickRefused) (time : ℤ) (s : State) (vals : List Value) → P s → EffectHas P (tick_effect x time s vals)
+  tick_keeps (Ok u) time s vals p = k.change s _ refl refl p
+  tick_keeps (Err Negative) time s vals p = tt
+  tick_keeps (Err Overflow) time s vals p = tt
+
   effect_keeps : (ctx : Ctx) (st : NumStmt) (s : State) (vals : List Value) → P s → EffectHas P (effect_of ctx st s vals)
   effect_keeps ctx (stmt.Set x a op b) s vals p = set_keeps (computed op (number_in vals a) (number_in vals b)) s vals p
   effect_keeps ctx (stmt.Print a) s vals p = k.note (entry.Print (number_in vals a)) s tt p
@@ -133,8 +138,7 @@ module _ (P : State → Type 0) (k : Kept P) where
       if_effect (fits (s.clock.time +ℤ number_in vals n)) _ _ (k.change s _ refl refl p) tt
   effect_keeps ctx (stmt.Abort e) s vals p = abort_keeps P k (name_in vals e) s p
   effect_keeps ctx (stmt.Tick n) s vals p =
-      if_effect (int_lt (number_in vals n) (pos 0)) _ _ tt
-      (if_effect (fits (s.clock.time +ℤ number_in vals n)) _ _ (k.change s _ refl refl p) tt)
+      tick_keeps (ticked (number_in vals n) (s.clock.time +ℤ number_in vals n)) (s.clock.time +ℤ number_in vals n) s vals p
   effect_keeps ctx (stmt.Monitor m) s vals p = with_monitor_keeps P k ctx.mon s p
   effect_keeps ctx (stmt.Within m proc args) s vals p = called_keeps P k _ proc _ Drop s p
   effect_keeps ctx (stmt.Detach m) s vals p = detach_keeps P k (name_in vals m) s p
@@ -143,7 +147,7 @@ module _ (P : State → Type 0) (k : Kept P) where
   effect_keeps ctx (stmt.Raise a) s vals p = tt
   effect_keeps ctx (stmt.Send m a) s vals p =
       sent_keeps (send (name_in vals m) (number_in vals a) s) vals (send_keeps P k (name_in vals m) (number_in vals a) s p)
-  effect_keeps ctx (stmt.Try r proc args catch catch_args) s vals p = try_begun_keeps P k ctx proc _ _ (with_ivar s) (fresh_keeps s p)
+  effect_keeps ctx (stmt.Try r proc args catch catch_args kind) s vals p = try_begun_keeps P k ctx kind proc _ _ (with_ivar s) (fresh_keeps s p)
   effect_keeps ctx (stmt.Throttle t n stop) s vals p = k.change s _ refl refl p
   effect_keeps ctx (stmt.Enqueue r t proc args) s vals p =
       if_effect (throttle_at (name_in vals t) s).dead _ _ tt
@@ -152,7 +156,7 @@ module _ (P : State → Type 0) (k : Kept P) where
   effect_keeps ctx (stmt.Pipe i b) s vals p = k.change s _ refl refl p
   effect_keeps ctx (stmt.Write r i a) s vals p =
       if_effect (pipe_at (name_in vals i) s).closed _ _ tt
-      (pushed_back_keeps P k (name_in vals i) (length s.cells.ivars) _ (put_keeps P k (name_in vals i) (number_in vals a) (with_ivar s) (fresh_keeps s p)))
+      (write_keeps P k (name_in vals i) (length s.cells.ivars) (number_in vals a) (with_ivar s) (fresh_keeps s p))
   effect_keeps ctx (stmt.Put i a) s vals p =
       if_effect (pipe_at (name_in vals i) s).closed _ _ tt (put_keeps P k (name_in vals i) (number_in vals a) s p)
   effect_keeps ctx (stmt.Read r i proc args eof eof_args) s vals p = read_keeps P k (name_in vals i) _ (with_ivar s) (fresh_keeps s p)
@@ -224,7 +228,7 @@ module _ (P : State → Type 0) (k : Kept P) where
   all_part_keeps program ctx (ForAll c) g s p = call_if_keeps program ctx (all_call g c s) s p
   all_part_keeps program ctx (ForAny ds r) g s p = p
   all_part_keeps program ctx (ForChoice choices vals r) g s p = p
-  all_part_keeps program ctx (ForGuard ctx' c) g s p = p
+  all_part_keeps program ctx (ForGuard ctx' m kind c) g s p = p
 
   part_keeps : (program : List NumProc) (ctx : Ctx) (o : Option ℤ) (g n : ℕ) (v : ℤ) (s : State) → P s → ProgressHas P (run_part program ctx o g n v s)
   part_keeps program ctx (Some w) g n v s p = p
@@ -239,7 +243,7 @@ module _ (P : State → Type 0) (k : Kept P) where
   choice_keeps program ctx (ForAny ds r) s p = filled_if_keeps r (first_number ds s) s p
   choice_keeps program ctx (ForChoice choices vals r) s p = call_if_keeps program ctx (first_call choices vals r s) s p
   choice_keeps program ctx (ForAll c) s p = p
-  choice_keeps program ctx (ForGuard ctx' c) s p = p
+  choice_keeps program ctx (ForGuard ctx' m kind c) s p = p
 
   if_progress : (b : Bool) (x y : Progress) → ProgressHas P x → ProgressHas P y → ProgressHas P (if b then x else y)
   if_progress true x y p q = p

@@ -1,6 +1,6 @@
 -- An ivar is filled at most once: what the statements that are built do to ivars.
 use Rattle.std.proofs.Common.{ℕ, ℤ, ◌+◌, ◌<◌, ◌≤◌, ◌≡◌, List, [], ◌∷◌, ◌++◌, zero, suc, length, map, Bool, true, false, cond, Option, Some, None, refl, sym, subst, ◌∙◌, ap, arith, get_or, set, filter, fold}
-use Rattle.std.specs.Prelude.{pos, ◌==◌}
+use Rattle.std.specs.Prelude.{◌==◌}
 use Rattle.std.proofs.lemmas.Bool.{eqb-true, eq-eqb, true≢false}
 use Rattle.std.proofs.lemmas.List.{get_or-set_same, get_or-set_other, length-append}
 use Rattle.std.proofs.lemmas.List.Elements.{filter-append}
@@ -20,7 +20,7 @@ use Rattle.ak_frames.specs.declared.frame.Task.{Task}
 use Rattle.ak_trace.specs.declared.entry.Entry.{Entry}
 use Rattle.ak_trace.specs.declared.entry.Entry.TheVariants as entry
 use Rattle.ak_machine.specs.State.{State}
-use Rattle.ak_machine.specs.Deferred.{noting, enqueue, with_ivar, number_at, fill, fill_at, fill_empty, woken_by, woken_task, register, register_at, connect, connect_at}
+use Rattle.ak_machine.specs.Deferred.{noting, enqueue, with_ivar, number_at, fill, fill_at, woken_by, woken_task, register, register_at, connect, connect_at}
 use Rattle.ak_machine.specs.Mapped.{clock_mapped, monitor_mapped, outstanding_mapped, state_renamed}
 use Rattle.ak_machine.specs.Job.{returned, number_returned, deferred_returned}
 use Rattle.ak_exec.specs.Fits.{RetFits}

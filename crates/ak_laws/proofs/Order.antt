@@ -1,8 +1,6 @@
 -- Jobs are enqueued and run in order.
-use Rattle.std.proofs.Common.{ℕ, ◌+◌, ◌<◌, ◌≤◌, ◌⊎◌, ◌≡◌, List, [], ◌∷◌, ◌++◌, map, Bool, true, false, Option, Some, None, refl, sym, subst, ◌∙◌, ap, nat_lt, inl, inr}
-use Rattle.std.specs.Prelude.{cond}
+use Rattle.std.proofs.Common.{ℕ, ◌+◌, ◌<◌, ◌≤◌, ◌⊎◌, ◌≡◌, List, [], ◌∷◌, ◌++◌, map, Bool, true, false, Option, Some, None, refl, sym, subst, ◌∙◌, ap, inl, inr}
 use Rattle.std.proofs.lemmas.Bool.{cases_lt, cond_below, cond_above}
-use Rattle.ak_base.specs.declared.number.Ctx.{Ctx}
 use Rattle.ak_base.specs.Lists.{rest_of}
 use Rattle.ak_labor.specs.Calls.{Reply}
 use Rattle.ak_rings.specs.declared.job.Job.{Job}
@@ -12,13 +10,13 @@ use Rattle.ak_trace.specs.declared.entry.Entry.{Entry}
 use Rattle.ak_trace.specs.declared.entry.Entry.TheVariants as entry
 use Rattle.ak_program.specs.declared.program.NumProc.{NumProc}
 use Rattle.ak_machine.specs.declared.config.Config.{Config}
-use Rattle.ak_machine.specs.State.{State, initial_state}
+use Rattle.ak_machine.specs.State.{State}
 use Rattle.ak_machine.specs.Mapped.{job_mapped, state_renamed}
 use Rattle.ak_machine.specs.Deferred.{noting, enqueue}
 use Rattle.ak_machine.specs.Run.{HasEnded, run_of, machine_after}
 use Rattle.ak_cells.specs.Names.{renamed}
-use Rattle.ak_laws.specs.Order.{Waiting, nothing_waits, with_waiting, new_cycle, RunsNormal, RunsLow, Follows, Leads, IsInOrder}
-use Rattle.ak_laws.proofs.Kept.{IsQuiet, Kept, Ended}
+use Rattle.ak_laws.specs.Order.{Waiting, nothing_waits, with_waiting, Follows, Leads, IsInOrder}
+use Rattle.ak_laws.proofs.Kept.{IsQuiet, Ended}
 use Rattle.ak_laws.proofs.KeptRun.{KeptByRuns, run_keeps}
 use Rattle.ak_laws.proofs.Ends.{at_end}
 
@@ -45,6 +43,7 @@ quiet_follows limit (entry.Join r i) w q = refl
 quiet_follows limit (entry.Print z) w q = refl
 quiet_follows limit (entry.Monitor m p) w q = refl
 quiet_follows limit (entry.Detach m) w q = refl
+quiet_follows limit (entry.Attach m) w q = refl
 quiet_follows limit (entry.Error e m) w q = refl
 quiet_follows limit (entry.Caught m) w q = refl
 quiet_follows limit (entry.Rest e) w q = refl

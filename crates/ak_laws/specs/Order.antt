@@ -48,6 +48,7 @@ Follows limit (entry.Join r i) w v = v ≡ w
 Follows limit (entry.Print z) w v = v ≡ w
 Follows limit (entry.Monitor m p) w v = v ≡ w
 Follows limit (entry.Detach m) w v = v ≡ w
+Follows limit (entry.Attach m) w v = v ≡ w
 Follows limit (entry.Error e m) w v = v ≡ w
 Follows limit (entry.Caught m) w v = v ≡ w
 Follows limit (entry.Rest e) w v = v ≡ w

@@ -102,7 +102,7 @@ purpose_held f (ForAny ds r) = refl
 purpose_held f (ForChoice choices vals r) =
     joined f (f r ∷ flat_map in_choosable (map (choosable_mapped f) choices)) (r ∷ flat_map in_choosable choices) (in_values (values_mapped f vals)) (in_values vals)
     (ap (λ l. f r ∷ l) (each f in_choosable (choosable_mapped f) (λ c. refl) choices)) (values_held f vals)
-purpose_held f (ForGuard ctx c) = callback_held f c
+purpose_held f (ForGuard ctx m mode c) = callback_held f c
 
 body_held : (f : ℕ → ℕ) (x : Body) → in_body (body_mapped f x) ≡ map f (in_body x)
 body_held f x = callback_held f x.call

@@ -100,7 +100,7 @@ purpose_law g f (ForAll c) = rw (callback_law g f c) refl
 purpose_law g f (ForAny ds r) = rw (numbers_law g f ds) refl
 purpose_law g f (ForChoice choices vals r) =
     rw (map_by (choosable_mapped g) (choosable_mapped f) (choosable_mapped (λ i. g (f i))) (choosable_law g f) choices, values_law g f vals) refl
-purpose_law g f (ForGuard ctx c) = rw (callback_law g f c) refl
+purpose_law g f (ForGuard ctx m mode c) = rw (callback_law g f c) refl
 
 pub body_law : (g f : ℕ → ℕ) (b : Body) → body_mapped g (body_mapped f b) ≡ body_mapped (λ i. g (f i)) b
 body_law g f b = rw (callback_law g f b.call) refl

@@ -89,7 +89,7 @@ abbrev pub in_purpose : Purpose → List ℕ
 in_purpose (ForAll c) = in_callback c
 in_purpose (ForAny deferreds to) = to ∷ deferreds
 in_purpose (ForChoice choices vals to) = to ∷ flat_map in_choosable choices ++ in_values vals
-in_purpose (ForGuard ctx c) = in_callback c
+in_purpose (ForGuard ctx m mode c) = in_callback c
 
 abbrev pub in_body : Body → List ℕ
 in_body b = in_callback b.call

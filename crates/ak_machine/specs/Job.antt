@@ -94,7 +94,7 @@ abbrev pub run_all_part : List NumProc → Ctx → Purpose → ℕ → State →
 run_all_part program ctx (ForAll c) g s = run_call_if program ctx (all_call g c s) s
 run_all_part program ctx (ForAny ds r) g s = Over (going_on s)
 run_all_part program ctx (ForChoice choices vals r) g s = Over (going_on s)
-run_all_part program ctx (ForGuard ctx' c) g s = Over (going_on s)
+run_all_part program ctx (ForGuard ctx' m kind c) g s = Over (going_on s)
 
 -- a number comes to a part that has none; one that has a number stays as it is
 abbrev pub run_part : List NumProc → Ctx → Option ℤ → ℕ → ℕ → ℤ → State → Progress
@@ -111,7 +111,7 @@ abbrev pub run_choice : List NumProc → Ctx → Purpose → State → Progress
 run_choice program ctx (ForAny ds r) s = Over (going_on (filled_if r (first_number ds s) s))
 run_choice program ctx (ForChoice choices vals r) s = run_call_if program ctx (first_call choices vals r s) s
 run_choice program ctx (ForAll c) s = Over (going_on s)
-run_choice program ctx (ForGuard ctx' c) s = Over (going_on s)
+run_choice program ctx (ForGuard ctx' m kind c) s = Over (going_on s)
 
 -- the number that woke a job; 0 where it waited for none
 abbrev pub value_or_zero : Option ℤ → ℤ

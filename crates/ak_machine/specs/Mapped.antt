@@ -100,7 +100,7 @@ abbrev pub purpose_mapped : (ℕ → ℕ) → Purpose → Purpose
 purpose_mapped f (ForAll c) = ForAll (callback_mapped f c)
 purpose_mapped f (ForAny deferreds to) = ForAny (map f deferreds) (f to)
 purpose_mapped f (ForChoice choices vals to) = ForChoice (map (choosable_mapped f) choices) (values_mapped f vals) (f to)
-purpose_mapped f (ForGuard ctx c) = ForGuard ctx (callback_mapped f c)
+purpose_mapped f (ForGuard ctx m mode c) = ForGuard ctx m mode (callback_mapped f c)
 
 abbrev pub body_mapped : (ℕ → ℕ) → Body → Body
 body_mapped f b = record b { call = callback_mapped f b.call }

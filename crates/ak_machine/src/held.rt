@@ -1,9 +1,10 @@
 //! What the state keeps until it is wanted: calls, handlers, and what groups, throttles, pipes, helpers and works are for.
 
 use ak_base::list::Items;
-use ak_base::number::{Ctx, GroupNo, HelperNo, IvarNo, WorkNo};
+use ak_base::number::{Ctx, GroupNo, HelperNo, IvarNo, MonNo, WorkNo};
 use ak_frames::frame::BodyId;
 use ak_frames::value::Vals;
+use ak_script::statement::GuardMode;
 
 /// A call that waits: a procedure with its last values, and the deferred that its return goes to.
 #[derive(Debug, Drop)]
@@ -47,9 +48,12 @@ pub enum Purpose {
         vals: Vals,
         to: IvarNo,
     },
-    /// The guard of a `try`: in its context the procedure for errors is called.
+    /// The guard of a `try`: in its context the procedure for errors is called, and its monitor is attached when it is decided,
+    /// where its mode is to raise later errors.
     ForGuard {
         ctx: Ctx,
+        mon: MonNo,
+        mode: GuardMode,
         catch: Callback,
     },
 }

@@ -1,6 +1,6 @@
 //! One monitor of the tree.
 
-ghost use Rattle.std.specs.Prelude.{◌≡◌, ◌∷◌, ◌++◌, [], OnOk, OnErr, true};
+ghost use Rattle.std.specs.Prelude.{◌≡◌, ◌∷◌, ◌++◌, [], OnOk, OnErr, true, false};
 ghost use Rattle.ak_base.specs.Lists.{first_of, rest_of};
 ghost use Rattle.ak_monitor.specs.Monitors.{fresh_monitor};
 
@@ -65,6 +65,13 @@ impl<H> Node<H> {
         ensures { self.new ≡ record self.old { detached = true } }
     {
         self.detached = true;
+    }
+
+    /// Attaches it: it is detached no longer.
+    pub fn attach(&mut self)
+        ensures { self.new ≡ record self.old { detached = false } }
+    {
+        self.detached = false;
     }
 
     /// Puts a handler last. After want of memory nothing has changed and the handler is lost.

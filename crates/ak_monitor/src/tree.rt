@@ -90,6 +90,14 @@ impl<H> Tree<H> {
         self.monitors[m.number() as usize].detach();
     }
 
+    /// Attaches a monitor that exists: it is detached no longer, and errors that reach it go on.
+    pub fn attach(&mut self, m: MonNo)
+        requires { m < length self.old }
+        ensures { self.new ≡ plain.with_attached m self.old }
+    {
+        self.monitors[m.number() as usize].attach();
+    }
+
     /// Gives a monitor that exists one more handler, behind the others, in the context `ctx`.
     ///
     /// # Errors

@@ -2,6 +2,7 @@
 use Rattle.std.specs.Prelude.{pos, List, [], ◌∷◌, false}
 use Rattle.ak_labor.specs.declared.ask.Ask.TheVariants as ask
 use Rattle.ak_labor.specs.Calls.{Done}
+use Rattle.ak_script.specs.declared.statement.GuardMode.TheVariants as mode
 use Rattle.ak_program.specs.declared.statement.NumAtom.TheVariants.{Literal, Local}
 use Rattle.ak_program.specs.declared.statement.NumStmt.TheVariants as stmt
 use Rattle.ak_program.specs.declared.program.NumProc.{NumProc}
@@ -85,7 +86,7 @@ handler_raises_in_its_own_context =
 -- e; end; proc O v:num; print v; end
 abbrev pub try_takes_the_first_error_program : List NumProc
 try_takes_the_first_error_program =
-    proc (line (stmt.Try 0 1 [] 3 []) ∷ line (stmt.Upon 0 4 []) ∷ []) ∷
+    proc (line (stmt.Try 0 1 [] 3 [] mode.Drop) ∷ line (stmt.Upon 0 4 []) ∷ []) ∷
     proc (line (stmt.Sched 2 []) ∷ line (stmt.Raise (Literal (pos 4))) ∷ []) ∷
     proc (line (stmt.Raise (Literal (pos 3))) ∷ []) ∷
     proc (line (stmt.Ret (Local 0)) ∷ []) ∷
@@ -110,4 +111,76 @@ try_takes_the_first_error =
       trace = try_takes_the_first_error_trace;
       asks =
           drains 6 (ask.Close ∷ []);
+    }
+
+-- A try of version 2 lets a later error of its body go up.
+-- async 2; proc main; try r B else K rest raise; upon r O; end; proc B; sched X; raise 4; end; proc X; raise 3; end;
+-- proc K e:num; ret e; end; proc O v:num; print v; end
+abbrev pub later_error_goes_up_program : List NumProc
+later_error_goes_up_program =
+    proc (line (stmt.Try 0 1 [] 3 [] mode.Raise) ∷ line (stmt.Upon 0 4 []) ∷ []) ∷
+    proc (line (stmt.Sched 2 []) ∷ line (stmt.Raise (Literal (pos 4))) ∷ []) ∷
+    proc (line (stmt.Raise (Literal (pos 3))) ∷ []) ∷
+    proc (line (stmt.Ret (Local 0)) ∷ []) ∷
+    proc (line (stmt.Print (Local 0)) ∷ []) ∷
+    []
+
+abbrev pub later_error_goes_up_trace : List Entry
+later_error_goes_up_trace =
+    entry.Enq 0 false ∷ entry.Cycle ∷ entry.Job 0 ∷ entry.Monitor 1 0 ∷ entry.Detach 1 ∷ entry.Enq 1 false ∷
+    entry.Job 1 ∷ entry.Enq 2 false ∷ entry.Error (pos 4) 1 ∷ entry.Caught 1 ∷ entry.Attach 1 ∷ entry.Enq 3 false ∷
+    entry.Job 2 ∷ entry.Error (pos 3) 1 ∷ entry.Unhandled (pos 3) ∷ entry.End ending.Unhandled ∷ []
+
+abbrev pub later_error_goes_up : Row
+later_error_goes_up =
+    record {
+      program = later_error_goes_up_program;
+      main = 0;
+      config = usual;
+      replies =
+          empty 3 (Done ∷ []);
+      trace = later_error_goes_up_trace;
+      asks =
+          drains 3 (ask.Close ∷ []);
+    }
+
+-- A try of version 2 whose body returned lets an error of what the body left go up to the monitor above.
+-- async 2; proc main; monitor m; detach m; onerror m H; within m T; end; proc T; try r B else K rest raise; upon r O;
+-- end; proc B; sched X; ret 8; end; proc X; raise 3; end; proc K e:num; ret e; end; proc H e:num; print e; end; proc O
+-- v:num; print v; end
+abbrev pub error_after_return_goes_up_program : List NumProc
+error_after_return_goes_up_program =
+    proc
+    (line (stmt.Monitor 0) ∷
+    line (stmt.Detach 0) ∷
+    line (stmt.OnError 0 5 []) ∷
+    line (stmt.Within 0 1 []) ∷
+    []) ∷
+    proc (line (stmt.Try 0 2 [] 4 [] mode.Raise) ∷ line (stmt.Upon 0 6 []) ∷ []) ∷
+    proc (line (stmt.Sched 3 []) ∷ line (stmt.Ret (Literal (pos 8))) ∷ []) ∷
+    proc (line (stmt.Raise (Literal (pos 3))) ∷ []) ∷
+    proc (line (stmt.Ret (Local 0)) ∷ []) ∷
+    proc (line (stmt.Print (Local 0)) ∷ []) ∷
+    proc (line (stmt.Print (Local 0)) ∷ []) ∷
+    []
+
+abbrev pub error_after_return_goes_up_trace : List Entry
+error_after_return_goes_up_trace =
+    entry.Enq 0 false ∷ entry.Cycle ∷ entry.Job 0 ∷ entry.Monitor 1 0 ∷ entry.Detach 1 ∷ entry.Enq 1 false ∷
+    entry.Job 1 ∷ entry.Monitor 2 1 ∷ entry.Detach 2 ∷ entry.Enq 2 false ∷ entry.Job 2 ∷ entry.Enq 3 false ∷
+    entry.Attach 2 ∷ entry.Fill 0 (pos 8) ∷ entry.Enq 4 false ∷ entry.Job 3 ∷ entry.Error (pos 3) 2 ∷
+    entry.Caught 1 ∷ entry.Enq 5 false ∷ entry.Job 4 ∷ entry.Print (pos 8) ∷ entry.Job 5 ∷ entry.Print (pos 3) ∷
+    entry.End ending.Idle ∷ []
+
+abbrev pub error_after_return_goes_up : Row
+error_after_return_goes_up =
+    record {
+      program = error_after_return_goes_up_program;
+      main = 0;
+      config = usual;
+      replies =
+          empty 7 (Done ∷ []);
+      trace = error_after_return_goes_up_trace;
+      asks =
+          drains 7 (ask.Close ∷ []);
     }

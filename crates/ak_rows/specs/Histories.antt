@@ -2,7 +2,7 @@
 use Rattle.std.specs.Prelude.{ℤ, pos, List, [], ◌∷◌, true, false, Some, None}
 use Rattle.ak_labor.specs.declared.work.Work.{Work}
 use Rattle.ak_labor.specs.declared.work.WorkKind.{WorkKind}
-use Rattle.ak_labor.specs.declared.work.WorkKind.TheVariants.{Square, Mix, Fail}
+use Rattle.ak_labor.specs.declared.work.WorkKind.TheVariants.{Square}
 use Rattle.ak_labor.specs.declared.work.Outcome.TheVariants.{Good}
 use Rattle.ak_labor.specs.declared.ask.Ask.{Ask}
 use Rattle.ak_labor.specs.declared.ask.Ask.TheVariants as ask

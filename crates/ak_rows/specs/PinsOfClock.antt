@@ -1,20 +1,12 @@
 -- Pins of yields and alarms: short scripts, each about one rule, with the runs that another implementation gives.
-use Rattle.std.specs.Prelude.{ℕ, pos, negsuc, List, [], ◌∷◌, true, false, Some, None}
+use Rattle.std.specs.Prelude.{pos, negsuc, [], ◌∷◌, false}
 use Rattle.ak_labor.specs.declared.ask.Ask.TheVariants as ask
-use Rattle.ak_labor.specs.declared.work.Outcome.TheVariants as outcome
-use Rattle.ak_labor.specs.declared.work.WorkKind.TheVariants as kind
-use Rattle.ak_labor.specs.Calls.{Pairs, Granted, Done}
-use Rattle.ak_script.specs.declared.statement.Operator.TheVariants as operator
+use Rattle.ak_labor.specs.Calls.{Done}
 use Rattle.ak_program.specs.declared.statement.NumAtom.TheVariants.{Literal, Local}
 use Rattle.ak_program.specs.declared.statement.NumStmt.TheVariants as stmt
-use Rattle.ak_program.specs.declared.program.NumPrefix.TheVariants.{If, Unless}
-use Rattle.ak_program.specs.declared.program.NumProc.{NumProc}
-use Rattle.ak_trace.specs.declared.entry.Entry.{Entry}
 use Rattle.ak_trace.specs.declared.entry.Entry.TheVariants as entry
 use Rattle.ak_trace.specs.declared.entry.Ending.TheVariants as ending
-use Rattle.ak_history.specs.declared.event.Event.{Event}
-use Rattle.ak_history.specs.declared.event.Event.TheVariants as event
-use Rattle.ak_rows.specs.Row.{Row, proc, line, line_when, choice, empty, drains}
+use Rattle.ak_rows.specs.Row.{Row, proc, line, empty, drains}
 
 -- an alarm is due where its time is at most the clock, and one that is not due does not hold the run:
 -- proc main; after a 3; after b 4; event e c 2; after d -1; upon a O 1; upon b O 2; upon c O 3; upon d O 4; tick 2;

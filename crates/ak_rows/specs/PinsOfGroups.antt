@@ -1,20 +1,13 @@
 -- Pins of `all`, `any` and `choose`: short scripts, each about one rule, with the runs that another implementation gives.
-use Rattle.std.specs.Prelude.{ℕ, pos, negsuc, List, [], ◌∷◌, true, false, Some, None}
+use Rattle.std.specs.Prelude.{pos, negsuc, [], ◌∷◌, true, false}
 use Rattle.ak_labor.specs.declared.ask.Ask.TheVariants as ask
-use Rattle.ak_labor.specs.declared.work.Outcome.TheVariants as outcome
-use Rattle.ak_labor.specs.declared.work.WorkKind.TheVariants as kind
-use Rattle.ak_labor.specs.Calls.{Pairs, Granted, Done}
+use Rattle.ak_labor.specs.Calls.{Done}
 use Rattle.ak_script.specs.declared.statement.Operator.TheVariants as operator
 use Rattle.ak_program.specs.declared.statement.NumAtom.TheVariants.{Literal, Local}
 use Rattle.ak_program.specs.declared.statement.NumStmt.TheVariants as stmt
-use Rattle.ak_program.specs.declared.program.NumPrefix.TheVariants.{If, Unless}
-use Rattle.ak_program.specs.declared.program.NumProc.{NumProc}
-use Rattle.ak_trace.specs.declared.entry.Entry.{Entry}
 use Rattle.ak_trace.specs.declared.entry.Entry.TheVariants as entry
 use Rattle.ak_trace.specs.declared.entry.Ending.TheVariants as ending
-use Rattle.ak_history.specs.declared.event.Event.{Event}
-use Rattle.ak_history.specs.declared.event.Event.TheVariants as event
-use Rattle.ak_rows.specs.Row.{Row, proc, line, line_when, choice, empty, drains}
+use Rattle.ak_rows.specs.Row.{Row, proc, line, choice, empty, drains}
 
 -- the procedure of an all runs in the context of the all:
 -- proc main; ivar a; monitor m; detach m; within m A a; low A a; yield y; upon y F a; end; proc A a:ivar; all r a a

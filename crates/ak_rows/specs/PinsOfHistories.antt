@@ -1,5 +1,5 @@
 -- Pins of legal histories: each has one event more than is legal, about one rule, as another implementation judges them.
-use Rattle.std.specs.Prelude.{ℕ, pos, negsuc, List, [], ◌∷◌, Some, None}
+use Rattle.std.specs.Prelude.{pos, List, [], ◌∷◌, Some, None}
 use Rattle.ak_labor.specs.declared.work.Outcome.TheVariants as outcome
 use Rattle.ak_labor.specs.declared.work.WorkKind.TheVariants as kind
 use Rattle.ak_history.specs.declared.event.Event.{Event}

@@ -1,19 +1,14 @@
 -- Pins of jobs: their values, contexts, numbers and limits: short scripts, each about one rule, with the runs that another implementation gives.
-use Rattle.std.specs.Prelude.{ℕ, pos, negsuc, List, [], ◌∷◌, true, false, Some, None}
+use Rattle.std.specs.Prelude.{pos, negsuc, [], ◌∷◌, true, false}
 use Rattle.ak_labor.specs.declared.ask.Ask.TheVariants as ask
-use Rattle.ak_labor.specs.declared.work.Outcome.TheVariants as outcome
-use Rattle.ak_labor.specs.declared.work.WorkKind.TheVariants as kind
-use Rattle.ak_labor.specs.Calls.{Pairs, Granted, Done}
+use Rattle.ak_labor.specs.Calls.{Done}
 use Rattle.ak_script.specs.declared.statement.Operator.TheVariants as operator
+use Rattle.ak_script.specs.declared.statement.GuardMode.TheVariants as mode
 use Rattle.ak_program.specs.declared.statement.NumAtom.TheVariants.{Literal, Local}
 use Rattle.ak_program.specs.declared.statement.NumStmt.TheVariants as stmt
 use Rattle.ak_program.specs.declared.program.NumPrefix.TheVariants.{If, Unless}
-use Rattle.ak_program.specs.declared.program.NumProc.{NumProc}
-use Rattle.ak_trace.specs.declared.entry.Entry.{Entry}
 use Rattle.ak_trace.specs.declared.entry.Entry.TheVariants as entry
 use Rattle.ak_trace.specs.declared.entry.Ending.TheVariants as ending
-use Rattle.ak_history.specs.declared.event.Event.{Event}
-use Rattle.ak_history.specs.declared.event.Event.TheVariants as event
 use Rattle.ak_rows.specs.Row.{Row, proc, line, line_when, choice, empty, drains}
 
 -- args of a call are the values of the moment of the statement:
@@ -91,8 +86,8 @@ each_result_draws_one_number =
           line (stmt.NextError 11 10) ∷ line (stmt.Pipe 12 0) ∷ line (stmt.Read 13 12 1 [] 2 []) ∷ line (stmt.Pipe 14 0) ∷
           line (stmt.Write 15 14 (Literal (pos 1))) ∷ line (stmt.Write 16 14 (Literal (pos 2))) ∷ line (stmt.Flushed 17 14) ∷
           line (stmt.Throttle 18 1 false) ∷ line (stmt.ThrottleDone 19 18) ∷ line (stmt.Enqueue 20 18 2 []) ∷
-          line (stmt.ThrottleDone 21 18) ∷ line (stmt.Try 22 2 [] 1 []) ∷ line (stmt.Ivar 23) ∷ line (stmt.Fill 23 (Literal (pos 1))) ∷
-          line (stmt.Stop) ∷ []) ∷
+          line (stmt.ThrottleDone 21 18) ∷ line (stmt.Try 22 2 [] 1 [] mode.Drop) ∷ line (stmt.Ivar 23) ∷
+          line (stmt.Fill 23 (Literal (pos 1))) ∷ line (stmt.Stop) ∷ []) ∷
           proc [] ∷
           proc [] ∷
           [];

@@ -1,20 +1,14 @@
 -- Pins of monitors and of the way of an error: short scripts, each about one rule, with the runs that another implementation gives.
-use Rattle.std.specs.Prelude.{ℕ, pos, negsuc, List, [], ◌∷◌, true, false, Some, None}
+use Rattle.std.specs.Prelude.{pos, [], ◌∷◌, true, false, None}
 use Rattle.ak_labor.specs.declared.ask.Ask.TheVariants as ask
 use Rattle.ak_labor.specs.declared.work.Outcome.TheVariants as outcome
 use Rattle.ak_labor.specs.declared.work.WorkKind.TheVariants as kind
-use Rattle.ak_labor.specs.Calls.{Pairs, Granted, Done}
-use Rattle.ak_script.specs.declared.statement.Operator.TheVariants as operator
+use Rattle.ak_labor.specs.Calls.{Pairs, Done}
 use Rattle.ak_program.specs.declared.statement.NumAtom.TheVariants.{Literal, Local}
 use Rattle.ak_program.specs.declared.statement.NumStmt.TheVariants as stmt
-use Rattle.ak_program.specs.declared.program.NumPrefix.TheVariants.{If, Unless}
-use Rattle.ak_program.specs.declared.program.NumProc.{NumProc}
-use Rattle.ak_trace.specs.declared.entry.Entry.{Entry}
 use Rattle.ak_trace.specs.declared.entry.Entry.TheVariants as entry
 use Rattle.ak_trace.specs.declared.entry.Ending.TheVariants as ending
-use Rattle.ak_history.specs.declared.event.Event.{Event}
-use Rattle.ak_history.specs.declared.event.Event.TheVariants as event
-use Rattle.ak_rows.specs.Row.{Row, proc, line, line_when, choice, empty, drains}
+use Rattle.ak_rows.specs.Row.{Row, proc, line, empty, drains}
 
 -- a handler that raises does so in the monitor in which it was registered, not in the one that it serves; an
 -- unhandled error fills no next error, and neither onerror nor nexterr detach:

@@ -1,20 +1,15 @@
 -- Pins of connections: what is renamed, and what is not: short scripts, each about one rule, with the runs that another implementation gives.
-use Rattle.std.specs.Prelude.{ℕ, pos, negsuc, List, [], ◌∷◌, true, false, Some, None}
+use Rattle.std.specs.Prelude.{pos, negsuc, [], ◌∷◌, true, false, None}
 use Rattle.ak_labor.specs.declared.ask.Ask.TheVariants as ask
 use Rattle.ak_labor.specs.declared.work.Outcome.TheVariants as outcome
 use Rattle.ak_labor.specs.declared.work.WorkKind.TheVariants as kind
 use Rattle.ak_labor.specs.Calls.{Pairs, Granted, Done}
-use Rattle.ak_script.specs.declared.statement.Operator.TheVariants as operator
+use Rattle.ak_script.specs.declared.statement.GuardMode.TheVariants as mode
 use Rattle.ak_program.specs.declared.statement.NumAtom.TheVariants.{Literal, Local}
 use Rattle.ak_program.specs.declared.statement.NumStmt.TheVariants as stmt
-use Rattle.ak_program.specs.declared.program.NumPrefix.TheVariants.{If, Unless}
-use Rattle.ak_program.specs.declared.program.NumProc.{NumProc}
-use Rattle.ak_trace.specs.declared.entry.Entry.{Entry}
 use Rattle.ak_trace.specs.declared.entry.Entry.TheVariants as entry
 use Rattle.ak_trace.specs.declared.entry.Ending.TheVariants as ending
-use Rattle.ak_history.specs.declared.event.Event.{Event}
-use Rattle.ak_history.specs.declared.event.Event.TheVariants as event
-use Rattle.ak_rows.specs.Row.{Row, proc, line, line_when, choice, empty, drains}
+use Rattle.ak_rows.specs.Row.{Row, proc, line, choice, empty, drains}
 
 -- handlers keep context and order through a connection:
 -- proc main; ivar i; monitor m; detach m; monitor z; upon i O 1; within m M i; low L i; yield y; bind r y P i; upon r
@@ -228,7 +223,7 @@ renaming_reaches_args_of_try =
     record {
       program =
           proc (line (stmt.Ivar 0) ∷ line (stmt.Ivar 1) ∷ line (stmt.Ivar 2) ∷ line (stmt.Bind 3 0 1 ((Local 1) ∷ [])) ∷
-          line (stmt.Bind 4 0 1 ((Local 2) ∷ [])) ∷ line (stmt.Fill 0 (Literal (pos 0))) ∷ line (stmt.Try 5 2 ((Local 1) ∷ []) 4 ((Local 2) ∷ [])) ∷
+          line (stmt.Bind 4 0 1 ((Local 2) ∷ [])) ∷ line (stmt.Fill 0 (Literal (pos 0))) ∷ line (stmt.Try 5 2 ((Local 1) ∷ []) 4 ((Local 2) ∷ []) mode.Drop) ∷
           []) ∷
           proc (line (stmt.Ret (Local 1)) ∷ []) ∷
           proc (line (stmt.Yield 1) ∷ line (stmt.Upon 1 3 ((Local 0) ∷ [])) ∷ line (stmt.Ret (Local 1)) ∷ []) ∷
@@ -472,9 +467,9 @@ renaming_reaches_tries =
           proc (line (stmt.Ivar 0) ∷ line (stmt.Bind 1 0 1 []) ∷ line (stmt.Bind 2 0 2 []) ∷ line (stmt.Bind 3 0 3 []) ∷
           line (stmt.Upon 1 8 ((Literal (pos 1)) ∷ [])) ∷ line (stmt.Upon 2 8 ((Literal (pos 2)) ∷ [])) ∷
           line (stmt.Upon 3 8 ((Literal (pos 3)) ∷ [])) ∷ line (stmt.Fill 0 (Literal (pos 0))) ∷ []) ∷
-          proc (line (stmt.Try 1 4 [] 7 []) ∷ line (stmt.Ret (Local 1)) ∷ []) ∷
-          proc (line (stmt.Try 1 5 [] 7 []) ∷ line (stmt.Ret (Local 1)) ∷ []) ∷
-          proc (line (stmt.Try 1 6 [] 7 []) ∷ line (stmt.Ret (Local 1)) ∷ []) ∷
+          proc (line (stmt.Try 1 4 [] 7 [] mode.Drop) ∷ line (stmt.Ret (Local 1)) ∷ []) ∷
+          proc (line (stmt.Try 1 5 [] 7 [] mode.Drop) ∷ line (stmt.Ret (Local 1)) ∷ []) ∷
+          proc (line (stmt.Try 1 6 [] 7 [] mode.Drop) ∷ line (stmt.Ret (Local 1)) ∷ []) ∷
           proc (line (stmt.Ret (Literal (pos 4))) ∷ []) ∷
           proc (line (stmt.Yield 0) ∷ line (stmt.Ret (Local 0)) ∷ []) ∷
           proc (line (stmt.Raise (Literal (pos 6))) ∷ []) ∷

@@ -1,7 +1,22 @@
 //! Pins of `try`.
 
 ghost use Rattle.ak_rows.specs.Row.{Meets};
-ghost use Rattle.ak_rows.specs.PinsOfTries.{try_decided_before_its_body_returns, try_done_decides, try_in_its_monitor_and_priority, try_monitor_below, try_takes_the_first_error};
+ghost use Rattle.ak_rows.specs.PinsOfTries.{attach_at_a_deferred, attach_at_a_number, attach_at_an_error, try_decided_before_its_body_returns, try_done_decides, try_in_its_monitor_and_priority, try_monitor_below, try_takes_the_first_error};
+
+/// It is attached as a deferred decides, before the fill, not before.
+pub fn pin_attach_at_a_deferred()
+    ensures { Meets attach_at_a_deferred }
+{}
+
+/// It is attached as a number decides, before the fill.
+pub fn pin_attach_at_a_number()
+    ensures { Meets attach_at_a_number }
+{}
+
+/// With rest raise the monitor is attached as the first error decides, the second goes up.
+pub fn pin_attach_at_an_error()
+    ensures { Meets attach_at_an_error }
+{}
 
 /// A body that has sent an error to its own monitor returns for nothing.
 pub fn pin_try_decided_before_its_body_returns()

@@ -7,14 +7,16 @@ use Rattle.ak_script.specs.declared.script.Statement.{Statement}
 use Rattle.ak_script.specs.declared.script.Proc.{Proc}
 use Rattle.ak_syntax.specs.declared.cursor.Cursor.{Cursor}
 use Rattle.ak_syntax.specs.declared.line_form.Form.{Form}
-use Rattle.ak_syntax.specs.declared.line_form.Form.TheVariants.{Head, Body, End}
+use Rattle.ak_syntax.specs.declared.line_form.Form.TheVariants.{Async, Head, Body, End}
 use Rattle.ak_syntax.specs.declared.refusal.GrammarKind.{GrammarKind}
 use Rattle.ak_syntax.specs.declared.refusal.GrammarKind.TheVariants.{BadLine, TooLong, TooMany, BadNumber}
-use Rattle.ak_syntax.specs.Table.{Place, Typed, Stands, binds, longest_list}
+use Rattle.ak_syntax.specs.declared.version.Version.{Version}
+use Rattle.ak_syntax.specs.declared.version.Version.TheVariants as version
+use Rattle.ak_syntax.specs.Table.{Place, Typed, Stands, binds, longest_list, is_in}
 use Rattle.ak_syntax.specs.Grammar.{places, IsLine, counts, locals}
 use Rattle.ak_syntax.specs.Faults.{Fits, IsFaulty, SomeZip, HasShape, IsShaped, HasFaultyNumber, Front, all_procs, MayFollow, Exceeds, LineFault}
 use Rattle.ak_syntax.specs.Words.{Bad, listed_at}
-use Rattle.ak_syntax.specs.Lines.{form_from, added, form_added, head_added, statement_added, grown, lined, taken, taken_good}
+use Rattle.ak_syntax.specs.Lines.{form_from, added, form_added, async_added, head_added, begun_statement, statement_added, grown, lined, taken, taken_good}
 use Rattle.ak_syntax.proofs.Found.{ok_pair, good_pair, if_not, if_so}
 use Rattle.ak_syntax.proofs.Meets.{Meets, meets_fits, fits_meets, clean, spoilt, faulty_not_clean}
 use Rattle.ak_syntax.proofs.LineForms.{form_sound, form_complete, no_form_words}
@@ -25,9 +27,10 @@ begun_grown None statement = None
 begun_grown (Some proc) statement = Some (grown proc statement)
 
 abbrev pub front_with : Front → Form → Front
+front_with front Async = record { of_version = version.Two; procs = []; begun = None }
 front_with front (Head name line params) = record front { begun = Some (record { name = name; line = line; params = params; body = [] }) }
 front_with front (Body statement) = record front { begun = begun_grown front.begun statement }
-front_with front End = record { procs = all_procs front; begun = None }
+front_with front End = record front { procs = all_procs front; begun = None }
 
 -- a statement has no faulty number
 abbrev pub IsQuiet : Form → Bool → Type 0
@@ -36,47 +39,69 @@ IsQuiet _ faulty = Unit {0}
 
 -- the four ways
 pub data Outcome (front : Front) (f : Form) (faulty : Bool) (r : Result Front GrammarKind) : Type 0 where
-  misplaced : (MayFollow front.begun f → ⊥) → r ≡ Err BadLine → Outcome front f faulty r
-  over : MayFollow front.begun f → Exceeds front f → r ≡ Err TooMany → Outcome front f faulty r
-  wrong : MayFollow front.begun f → (Exceeds front f → ⊥) → faulty ≡ true → r ≡ Err BadNumber → Outcome front f faulty r
-  right : MayFollow front.begun f → (Exceeds front f → ⊥) → IsQuiet f faulty → r ≡ Ok (front_with front f) → Outcome front f faulty r
+  misplaced : (MayFollow front f → ⊥) → r ≡ Err BadLine → Outcome front f faulty r
+  over : MayFollow front f → Exceeds front f → r ≡ Err TooMany → Outcome front f faulty r
+  wrong : MayFollow front f → (Exceeds front f → ⊥) → faulty ≡ true → r ≡ Err BadNumber → Outcome front f faulty r
+  right : MayFollow front f → (Exceeds front f → ⊥) → IsQuiet f faulty → r ≡ Ok (front_with front f) → Outcome front f faulty r
 
-head_outcome : (procs : List Proc) (name : List ℕ) (line : ℕ) (params : List Param) (faulty : Bool)
-    → Outcome (record { procs = procs; begun = None }) (Head name line params) faulty (head_added (record { procs = procs; begun = None }) (record { name = name; line = line; params = params; body = [] }))
-head_outcome procs name line params faulty = of (nat_lt 8 (length params)) refl (nat_le 4096 (length procs)) refl
+async_outcome : (v : Version) (procs : List Proc) (begun : Option Proc) (faulty : Bool)
+    → Outcome (record { of_version = v; procs = procs; begun = begun }) Async faulty (async_added v procs begun)
+async_outcome version.One [] None faulty = right tt (λ h. h) tt refl
+async_outcome version.One [] (Some proc) faulty = misplaced (λ h. h) refl
+async_outcome version.One (p ∷ procs) begun faulty = misplaced (λ h. h) refl
+async_outcome version.Two procs begun faulty = misplaced (λ h. h) refl
+
+-- the procedures, and none that has begun
+abbrev pub front_of : Version → List Proc → Front
+front_of v procs = record { of_version = v; procs = procs; begun = None }
+
+head_outcome : (v : Version) (procs : List Proc) (name : List ℕ) (line : ℕ) (params : List Param) (faulty : Bool)
+    → Outcome (front_of v procs) (Head name line params) faulty (head_added (front_of v procs) (record { name = name; line = line; params = params; body = [] }))
+head_outcome v procs name line params faulty = of (nat_lt 8 (length params)) refl (nat_le 4096 (length procs)) refl
   where
     of : (a : Bool) → nat_lt 8 (length params) ≡ a → (b : Bool) → nat_le 4096 (length procs) ≡ b
-        → Outcome (record { procs = procs; begun = None }) (Head name line params) faulty (cond (a || b) (Err TooMany) (Ok (record { procs = procs; begun = Some (record { name = name; line = line; params = params; body = [] }) })))
+        → Outcome (front_of v procs) (Head name line params) faulty
+        (cond (a || b) (Err TooMany)
+        (Ok (record { of_version = v; procs = procs; begun = Some (record { name = name; line = line; params = params; body = [] }) })))
     of true e b k = over tt (inl (grind arith)) refl
     of false e true k = over tt (inr (grind arith)) refl
     of false e false k = right tt (λ x. elim x [ inl h ↦ absurd (grind arith) | inr h ↦ absurd (grind arith) ]) tt refl
 
-abbrev pub front_in : List Proc → Proc → Front
-front_in procs proc = record { procs = procs; begun = Some proc }
+abbrev pub front_in : Version → List Proc → Proc → Front
+front_in v procs proc = record { of_version = v; procs = procs; begun = Some proc }
 
-statement_outcome : (procs : List Proc) (proc : Proc) (statement : Statement) (faulty : Bool)
-    → Outcome (front_in procs proc) (Body statement) faulty (statement_added (front_in procs proc) proc statement faulty)
-statement_outcome procs proc statement faulty = of (nat_lt 8 (longest_list statement.stmt)) refl (nat_le 64 (length proc.body)) refl (nat_lt 64 (length (locals proc) + length (binds statement.stmt))) refl faulty
+statement_outcome : (v : Version) (procs : List Proc) (proc : Proc) (statement : Statement) (faulty : Bool)
+    → Outcome (front_in v procs proc) (Body statement) faulty (begun_statement (Some proc) (front_in v procs proc) statement faulty)
+statement_outcome v procs proc statement faulty =
+    of (is_in v statement.stmt) refl (nat_lt 8 (longest_list statement.stmt)) refl (nat_le 64 (length proc.body)) refl
+    (nat_lt 64 (length (locals proc) + length (binds statement.stmt))) refl faulty
   where
-    of : (a : Bool) → nat_lt 8 (longest_list statement.stmt) ≡ a → (b : Bool) → nat_le 64 (length proc.body) ≡ b → (c : Bool) → nat_lt 64 (length (locals proc) + length (binds statement.stmt)) ≡ c → (faulty : Bool)
-        → Outcome (front_in procs proc) (Body statement) faulty (cond (a || (b || c)) (Err TooMany) (cond faulty (Err BadNumber) (Ok (front_in procs (grown proc statement)))))
-    of true e b k c l faulty = over tt (inl (grind arith)) refl
-    of false e true k c l faulty = over tt (inr (inl (grind arith))) refl
-    of false e false k true l faulty = over tt (inr (inr (grind arith))) refl
-    of false e false k false l true = wrong tt (λ x. elim x [ inl h ↦ absurd (grind arith) | inr y ↦ elim y [ inl h ↦ absurd (grind arith) | inr h ↦ absurd (grind arith) ] ]) refl refl
-    of false e false k false l false = right tt (λ x. elim x [ inl h ↦ absurd (grind arith) | inr y ↦ elim y [ inl h ↦ absurd (grind arith) | inr h ↦ absurd (grind arith) ] ]) refl refl
+    of : (i : Bool) → is_in v statement.stmt ≡ i → (a : Bool) → nat_lt 8 (longest_list statement.stmt) ≡ a → (b : Bool) → nat_le 64 (length proc.body) ≡ b
+        → (c : Bool) → nat_lt 64 (length (locals proc) + length (binds statement.stmt)) ≡ c → (faulty : Bool)
+        → Outcome (front_in v procs proc) (Body statement) faulty
+        (cond i (cond (a || (b || c)) (Err TooMany) (cond faulty (Err BadNumber) (Ok (front_in v procs (grown proc statement))))) (Err BadLine))
+    of false m a e b k c l faulty = misplaced (λ h. let no : true ≡ false = sym h ∙ m in cc) refl
+    of true m true e b k c l faulty = over m (inl (grind arith)) refl
+    of true m false e true k c l faulty = over m (inr (inl (grind arith))) refl
+    of true m false e false k true l faulty = over m (inr (inr (grind arith))) refl
+    of true m false e false k false l true =
+        wrong m (λ x. elim x [ inl h ↦ absurd (grind arith) | inr y ↦ elim y [ inl h ↦ absurd (grind arith) | inr h ↦ absurd (grind arith) ] ]) refl refl
+    of true m false e false k false l false =
+        right m (λ x. elim x [ inl h ↦ absurd (grind arith) | inr y ↦ elim y [ inl h ↦ absurd (grind arith) | inr h ↦ absurd (grind arith) ] ]) refl refl
 
-outcome_of : (procs : List Proc) (begun : Option Proc) (f : Form) (faulty : Bool) → Outcome (record { procs = procs; begun = begun }) f faulty (form_added (record { procs = procs; begun = begun }) f faulty)
-outcome_of procs None (Head name line params) faulty = head_outcome procs name line params faulty
-outcome_of procs None (Body statement) faulty = misplaced (λ h. h) refl
-outcome_of procs None End faulty = misplaced (λ h. h) refl
-outcome_of procs (Some proc) (Head name line params) faulty = misplaced (λ h. h) refl
-outcome_of procs (Some proc) (Body statement) faulty = statement_outcome procs proc statement faulty
-outcome_of procs (Some proc) End faulty = right tt (λ h. h) tt refl
+outcome_of : (v : Version) (procs : List Proc) (begun : Option Proc) (f : Form) (faulty : Bool)
+    → Outcome (record { of_version = v; procs = procs; begun = begun }) f faulty (form_added (record { of_version = v; procs = procs; begun = begun }) f faulty)
+outcome_of v procs begun Async faulty = async_outcome v procs begun faulty
+outcome_of v procs None (Head name line params) faulty = head_outcome v procs name line params faulty
+outcome_of v procs None (Body statement) faulty = misplaced (λ h. h) refl
+outcome_of v procs None End faulty = misplaced (λ h. h) refl
+outcome_of v procs (Some proc) (Head name line params) faulty = misplaced (λ h. h) refl
+outcome_of v procs (Some proc) (Body statement) faulty = statement_outcome v procs proc statement faulty
+outcome_of v procs (Some proc) End faulty = right tt (λ h. h) tt refl
 
 pub outcome : (front : Front) (f : Form) (faulty : Bool) → Outcome front f faulty (added front f faulty)
 unfolding added
-outcome front f faulty = outcome_of front.procs front.begun f faulty
+outcome front f faulty = outcome_of front.of_version front.procs front.begun f faulty
 
 -- ---- what becomes of a line
 -- the line has the form as its shape, and the flag says whether it has a faulty number
@@ -172,6 +197,14 @@ head_quiet name line params (w ∷ v ∷ words) (inl h) = h
 head_quiet name line params (w ∷ v ∷ words) (inr (inl h)) = h
 head_quiet name line params (w ∷ v ∷ words) (inr (inr h)) = typed_quiet params words h
 
+async_quiet : (words : List (List ℕ)) → SomeZip IsFaulty (places Async) words → ⊥
+async_quiet [] h = h
+async_quiet (w ∷ words) (inl h) = h
+async_quiet (w ∷ []) (inr h) = h
+async_quiet (w ∷ v ∷ words) (inr (inl h)) = h
+async_quiet (w ∷ v ∷ []) (inr (inr h)) = h
+async_quiet (w ∷ v ∷ x ∷ words) (inr (inr h)) = h
+
 end_quiet : (words : List (List ℕ)) → SomeZip IsFaulty (places End) words → ⊥
 end_quiet [] h = h
 end_quiet (w ∷ words) (inl h) = h
@@ -181,6 +214,8 @@ quiet_clean : (f : Form) (words : List (List ℕ)) (faulty : Bool) → IsQuiet f
 quiet_clean (Body statement) words faulty quiet m = quiet
 quiet_clean (Head name line params) words false quiet m = refl
 quiet_clean (Head name line params) words true quiet m = absurd (head_quiet name line params words (spoilt (places (Head name line params)) words m))
+quiet_clean Async words false quiet m = refl
+quiet_clean Async words true quiet m = absurd (async_quiet words (spoilt (places Async) words m))
 quiet_clean End words false quiet m = refl
 quiet_clean End words true quiet m = absurd (end_quiet words (spoilt (places End) words m))
 
@@ -218,7 +253,7 @@ fault_found front line kind kept h = of (line_read front line kept)
     of : Read front line → LineFault front line kind
     of (shapeless none is) = subst (LineFault front line) (same_kind BadLine kind (taken front line) is h) (λ f shape may. none f shape)
     of (read f faulty s is) = elim (outcome front f faulty) [
-      | misplaced not_may r ↦ subst (LineFault front line) (same_kind BadLine kind (taken front line) (is ∙ r) h) (λ g shape may. not_may (subst (MayFollow front.begun) (one_shape line g f shape s.shape) may))
+      | misplaced not_may r ↦ subst (LineFault front line) (same_kind BadLine kind (taken front line) (is ∙ r) h) (λ g shape may. not_may (subst (MayFollow front) (one_shape line g f shape s.shape) may))
       | over may ex r ↦ subst (LineFault front line) (same_kind TooMany kind (taken front line) (is ∙ r) h) (f, s.shape, may, ex)
       | wrong may not_ex e r ↦ subst (LineFault front line) (same_kind BadNumber kind (taken front line) (is ∙ r) h) (f, s.shape, may, not_ex, flag_faulty line f faulty s e)
       | right may not_ex quiet r ↦ (let bad : Ok (front_with front f) ≡ Err kind = sym (is ∙ r) ∙ h in absurd cc)
@@ -259,7 +294,8 @@ fault_is front line BadNumber kept fault =
 fault_is front line TooLong kept fault = absurd fault
 
 -- a right line is taken
-pub right_taken : (front : Front) (line : TextLine) (f : Form) → IsLine f line → IsShaped f → MayFollow front.begun f → (Exceeds front f → ⊥) → taken front line ≡ Ok (front_with front f)
+pub right_taken : (front : Front) (line : TextLine) (f : Form) → IsLine f line → IsShaped f → MayFollow front f → (Exceeds front f → ⊥)
+    → taken front line ≡ Ok (front_with front f)
 right_taken front line f is shaped may not_ex =
     let shape : HasShape f line = record { good = is.good; number = is.number; words = stands_fit (places f) (words_of line.text) is.words; shaped = shaped } in
     let x = shape_taken front line f shape in

@@ -17,7 +17,7 @@ use Rattle.ak_script.specs.declared.statement.WorkWord.{WorkWord}
 use Rattle.ak_script.specs.declared.statement.WorkWord.TheVariants.{Square, Mix, Fail}
 use Rattle.ak_syntax.specs.Names.{is_name, is_letter, is_number_word, is_colon, kind_word, all_kinds, operator_word, all_operators, work_word, all_works}
 use Rattle.ak_syntax.specs.Table.{Place, Exactly, Named, Valued, Counted, Typed, Stands}
-use Rattle.ak_syntax.specs.Words.{Bad, bad, ◌>>=◌, name_found, name_at, word_at, atom_found, atom_at, literal_found, number_of, count_in, count_or_zero, count_found, count_at, some_found, operator_named, operator_at, work_named, work_at, mode_named, mode_at, kind_named, param_found, param_cut}
+use Rattle.ak_syntax.specs.Words.{Bad, bad, ◌>>=◌, exactly_found, exactly_at, name_found, name_at, word_at, atom_found, atom_at, literal_found, number_of, count_in, count_or_zero, count_found, count_at, some_found, operator_named, operator_at, work_named, work_at, mode_named, mode_at, kind_named, param_found, param_cut}
 use Rattle.ak_syntax.proofs.Found.{ok_is, bind_ok, bind_is, passed, chosen, if_not, if_so, good, good_pair, some_is}
 use Rattle.ak_syntax.proofs.Meets.{Case}
 use Rattle.ak_syntax.proofs.Numbers.{number_reads, number_some, number_none, no_number}
@@ -37,6 +37,19 @@ name_plain = record { sound = name_sound; complete = name_complete; never = λ w
 pub name_part : IsPart (Always {T = List ℕ}) (λ (n : List ℕ) (places : List Place). Named n ∷ places) name_at
 unfolding name_at word_at
 name_part = found_part Named name_found name_plain
+
+-- ---- a very word
+exactly_sound : (bytes word : List ℕ) (u : Unit {0}) → exactly_found bytes word ≡ Ok u → Stands (Exactly bytes) word
+exactly_sound bytes word u h = (bytes_eq-Decides word bytes).0 (passed (bytes_eq word bytes) (good tt) u h).0
+
+exactly_complete : (bytes word : List ℕ) (u : Unit {0}) → Stands (Exactly bytes) word → exactly_found bytes word ≡ Ok u
+exactly_complete bytes word u h = if_so (bytes_eq word bytes) (good tt) (Err bad) ((bytes_eq-Decides word bytes).1 h)
+
+pub exactly_part : (bytes : List ℕ) → IsPart (Always {T = Unit {0}}) (λ (u : Unit {0}) (places : List Place). Exactly bytes ∷ places) (exactly_at bytes)
+unfolding exactly_at word_at
+exactly_part bytes =
+    found_part (λ u. Exactly bytes) (exactly_found bytes)
+    (record { sound = exactly_sound bytes; complete = exactly_complete bytes; never = λ word x h. h })
 
 -- ---- words of a table
 pub table_found : {K : Type 0} (f : K → List ℕ) (all : List K) (word : List ℕ) (k : K) → find (λ k. bytes_eq (f k) word) all ≡ Some k → word ≡ f k

@@ -11,17 +11,17 @@ use Rattle.ak_script.specs.declared.statement.Stmt.{Stmt}
 use Rattle.ak_script.specs.declared.statement.Stmt.TheVariants.{Set, Print, Ivar, Fill, Offer, Upon, Bind, All, Any, Choose, Sched, Low, Yield, Never, After, Event, Abort, Tick, Monitor, Within, Detach, OnError, NextError, Raise, Send, Try, Throttle, Enqueue, ThrottleDone, Pipe, Write, Put, Read, Close, CloseRead, Flushed, Work, Helper, HelperWork, HelperDone, Stop, Ret}
 use Rattle.ak_syntax.specs.declared.cursor.Cursor.{Cursor}
 use Rattle.ak_syntax.specs.declared.line_form.Form.{Form}
-use Rattle.ak_syntax.specs.declared.line_form.Form.TheVariants.{Head, Body, End}
+use Rattle.ak_syntax.specs.declared.line_form.Form.TheVariants.{Async, Head, Body, End}
 use Rattle.ak_syntax.specs.Keywords.{value_named, deferred_named, group_named, job_named, monitor_named, throttle_named, pipe_named, closing_named, pool_named}
 use Rattle.ak_syntax.specs.Rows.{statement_at}
 use Rattle.ak_syntax.specs.Table.{Place, Valued, row, binds, HasDeferreds}
 use Rattle.ak_syntax.specs.Grammar.{places, prefix_places, HasNumber, MayHavePrefix}
 use Rattle.ak_syntax.specs.Faults.{IsShaped}
-use Rattle.ak_syntax.specs.Words.{Bad, bad, ◌>>=◌, Part, both, mapped, word_from, word_at, end_at, atom_at, name_at, params_at}
-use Rattle.ak_syntax.specs.Lines.{head_at, end_form_at, conditional_at, if_at, unless_at, plain_at, form_from}
+use Rattle.ak_syntax.specs.Words.{Bad, bad, ◌>>=◌, Part, both, mapped, word_from, word_at, exactly_at, end_at, atom_at, name_at, params_at}
+use Rattle.ak_syntax.specs.Lines.{head_at, async_at, end_form_at, conditional_at, if_at, unless_at, plain_at, form_from}
 use Rattle.ak_syntax.proofs.Found.{ok_pair, bind_ok, bind_is, chosen, if_so, good_pair}
 use Rattle.ak_syntax.proofs.Meets.{Meets}
-use Rattle.ak_syntax.proofs.Items.{name_part, atom_part}
+use Rattle.ak_syntax.proofs.Items.{exactly_part, name_part, atom_part}
 use Rattle.ak_syntax.proofs.Parts.{IsLast, both_last, end_last, image}
 use Rattle.ak_syntax.proofs.Shapes.{params_last, IsRowOf}
 use Rattle.ak_syntax.proofs.RowWords.{statement_complete}
@@ -50,6 +50,12 @@ unfolding end_form_at
 end_form_sound number c left f h =
     let x = mapped_sound (λ t. End) end_last c left f h in
     subst (λ (g : Form). IsFormOf number (codes "end") c g left) x.1 (tt, tt, inl (refl, x.3))
+
+async_sound : (number : ℕ) (c left : Cursor) (f : Form) → async_at c ≡ Ok (f, left) → IsFormOf number (codes "async") c f left
+unfolding async_at
+async_sound number c left f h =
+    let x = mapped_sound (λ t. Async) (both_last (exactly_part (codes "2")) end_last) c left f h in
+    subst (λ (g : Form). IsFormOf number (codes "async") c g left) x.1 (tt, tt, inl (refl, x.3))
 
 -- ---- statements
 abbrev body_of : ℕ → Option Prefix → Stmt → Form
@@ -120,18 +126,23 @@ unless_sound number c left f h =
 
 pub form_sound : (number : ℕ) (word : List ℕ) (c left : Cursor) (f : Form) → form_from number word c ≡ Ok (f, left) → IsFormOf number word c f left
 unfolding form_from
-form_sound number word c left f h = of (bytes_eq word (codes "proc")) refl (bytes_eq word (codes "end")) refl (bytes_eq word (codes "if")) refl (bytes_eq word (codes "unless")) refl h
+form_sound number word c left f h =
+    of (bytes_eq word (codes "proc")) refl (bytes_eq word (codes "end")) refl (bytes_eq word (codes "if")) refl
+    (bytes_eq word (codes "unless")) refl (bytes_eq word (codes "async")) refl h
   where
     at : (key : List ℕ) → bytes_eq word key ≡ true → IsFormOf number key c f left → IsFormOf number word c f left
     at key e r = subst (λ (w : List ℕ). IsFormOf number w c f left) (sym ((bytes_eq-Decides word key).0 e)) r
 
     of : (p : Bool) → bytes_eq word (codes "proc") ≡ p → (e : Bool) → bytes_eq word (codes "end") ≡ e → (i : Bool) → bytes_eq word (codes "if") ≡ i → (u : Bool) → bytes_eq word (codes "unless") ≡ u
-        → cond p (head_at number) (cond e end_form_at (cond i (if_at number) (cond u (unless_at number) (plain_at number word)))) c ≡ Ok (f, left) → IsFormOf number word c f left
-    of true x e y i z u t h = at (codes "proc") x (head_sound number c left f h)
-    of false x true y i z u t h = at (codes "end") y (end_form_sound number c left f h)
-    of false x false y true z u t h = at (codes "if") z (if_sound number c left f h)
-    of false x false y false z true t h = at (codes "unless") t (unless_sound number c left f h)
-    of false x false y false z false t h = plain_sound number word c left f h
+        → (a : Bool) → bytes_eq word (codes "async") ≡ a
+        → cond p (head_at number) (cond e end_form_at (cond i (if_at number) (cond u (unless_at number) (cond a async_at (plain_at number word))))) c ≡ Ok (f, left)
+        → IsFormOf number word c f left
+    of true x e y i z u t a v h = at (codes "proc") x (head_sound number c left f h)
+    of false x true y i z u t a v h = at (codes "end") y (end_form_sound number c left f h)
+    of false x false y true z u t a v h = at (codes "if") z (if_sound number c left f h)
+    of false x false y false z true t a v h = at (codes "unless") t (unless_sound number c left f h)
+    of false x false y false z false t true v h = at (codes "async") v (async_sound number c left f h)
+    of false x false y false z false t false v h = plain_sound number word c left f h
 
 -- ---- the words of a form are taken
 -- no form is without words
@@ -151,7 +162,7 @@ no_words (Never r) before after met = met
 no_words (All r deferreds proc args) before after met = met
 no_words (Any r deferreds) before after met = met
 no_words (Choose r choices args) before after met = met
-no_words (Try r proc args catch catch_args) before after met = met
+no_words (Try r proc args catch catch_args mode) before after met = met
 no_words (Sched proc args) before after met = met
 no_words (Low proc args) before after met = met
 no_words (After r n) before after met = met
@@ -180,6 +191,7 @@ no_words (HelperWork r h kind a) before after met = met
 no_words (HelperDone h) before after met = met
 
 pub no_form_words : (f : Form) (before after : Bool) → Meets before (places f) [] after → ⊥
+no_form_words Async before after m = m
 no_form_words (Head name line params) before after m = m
 no_form_words End before after m = m
 no_form_words (Body statement) before after m = of statement.prefix m
@@ -217,21 +229,26 @@ no_row_unless : NoRow (codes "unless")
 unfolding statement_at value_named deferred_named group_named job_named monitor_named throttle_named pipe_named closing_named pool_named
 no_row_unless c = refl
 
+no_row_async : NoRow (codes "async")
+unfolding statement_at value_named deferred_named group_named job_named monitor_named throttle_named pipe_named closing_named pool_named
+no_row_async c = refl
+
 -- what is found for the form
 abbrev pub Completes : ℕ → List ℕ → Cursor → Form → Bool → Type 0
 Completes number word c f after = (left : Cursor) × (form_from number word c ≡ Ok (f, left)) × (left.faulty ≡ after)
 
 plain_choice : (number : ℕ) (word : List ℕ) (c : Cursor) → bytes_eq word (codes "proc") ≡ false → bytes_eq word (codes "end") ≡ false → bytes_eq word (codes "if") ≡ false → bytes_eq word (codes "unless") ≡ false
-    → form_from number word c ≡ plain_at number word c
+    → bytes_eq word (codes "async") ≡ false → form_from number word c ≡ plain_at number word c
 unfolding form_from
-plain_choice number word c p e i u = rw (p, e, i, u) refl
+plain_choice number word c p e i u a = rw (p, e, i, u, a) refl
 
 plain_complete : (number : ℕ) (stmt : Stmt) (word : List ℕ) (c : Cursor) (after : Bool) → HasDeferreds stmt → Meets c.faulty (row stmt) (word ∷ c.words) after → Completes number word c (body_of number None stmt) after
 unfolding plain_at
 plain_complete number stmt word c after has m =
     let x = statement_complete stmt word c after has m in
     let choice = plain_choice number word c (no_row_of (codes "proc") no_row_proc word c x.0 stmt x.1) (no_row_of (codes "end") no_row_end word c x.0 stmt x.1)
-    (no_row_of (codes "if") no_row_if word c x.0 stmt x.1) (no_row_of (codes "unless") no_row_unless word c x.0 stmt x.1) in
+    (no_row_of (codes "if") no_row_if word c x.0 stmt x.1) (no_row_of (codes "unless") no_row_unless word c x.0 stmt x.1)
+    (no_row_of (codes "async") no_row_async word c x.0 stmt x.1) in
     (x.0, choice ∙ bind_is (statement_at word c) (body_in number None) (stmt, x.0) x.1, x.2)
 
 cond_words_complete : (number : ℕ) (prefix : Prefix) (stmt : Stmt) (words : List (List ℕ)) (faulty after : Bool) → binds stmt ≡ [] → HasDeferreds stmt → Meets faulty (row stmt) words after
@@ -279,13 +296,19 @@ body_complete number (Some (Unless a)) stmt word c after may has (inr m) = absur
 body_complete number (Some (Unless a)) stmt word c after may has (inl m) = let x = unless_complete number a stmt c after may has m.1 in (x.0, ap (λ (w : List ℕ). form_from number w c) m.0 ∙ x.1, x.2)
 
 pub form_complete : (number : ℕ) (f : Form) (word : List ℕ) (c : Cursor) (after : Bool) → IsShaped f → HasNumber f number → Meets c.faulty (places f) (word ∷ c.words) after → Completes number word c f after
-unfolding form_from head_at end_form_at
+unfolding form_from head_at async_at end_form_at
 form_complete number (Head name line params) word c after shaped is (inr m) = absurd m.0
 form_complete number (Head name line params) word c after shaped is (inl m) =
     let p = both_last name_part params_last in
     let x = p.complete c (name, params) after (tt, tt) m.1 in
     let made : List ℕ × List Param → Form = λ t. Head t.0 number t.1 in
     (x.0, ap (λ (w : List ℕ). form_from number w c) m.0 ∙ bind_is (both name_at params_at c) (image made) ((name, params), x.0) x.1 ∙ ap (λ (n : ℕ). good_pair (Head name n params) x.0) (sym is), x.2)
+form_complete number Async word c after shaped is (inr m) = absurd m.0
+form_complete number Async word c after shaped is (inl m) =
+    let p = both_last (exactly_part (codes "2")) end_last in
+    let x = p.complete c (tt, tt) after (tt, tt) m.1 in
+    let made : Unit {0} × Unit {0} → Form = λ t. Async in
+    (x.0, ap (λ (w : List ℕ). form_from number w c) m.0 ∙ bind_is (both (exactly_at (codes "2")) end_at c) (image made) ((tt, tt), x.0) x.1, x.2)
 form_complete number End word c after shaped is (inr m) = absurd m.0
 form_complete number End word c after shaped is (inl m) =
     let x = end_last.complete c tt after tt m.1 in

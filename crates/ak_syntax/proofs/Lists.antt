@@ -1,15 +1,20 @@
 -- How the reader goes along a list.
 use Rattle.std.proofs.Common.{◌≡◌, ℕ, ◌<◌, Bool, true, false, ◌||◌, List, [], ◌∷◌, ◌++◌, length, Option, Some, None, Result, Ok, Err, refl, sym, ap, ◌∙◌, subst, cond, arith, append_assoc}
 use Rattle.std.proofs.lemmas.List.{append-nil}
+use Rattle.std.specs.Prelude.{codes}
+use Rattle.std.specs.Str.{bytes_eq}
+use Rattle.ak_script.specs.declared.statement.Atom.{Atom}
 use Rattle.ak_script.specs.declared.statement.Choice.{Choice}
+use Rattle.ak_script.specs.declared.statement.GuardMode.{GuardMode}
+use Rattle.ak_script.specs.declared.statement.GuardMode.TheVariants as guard
 use Rattle.ak_syntax.specs.declared.cursor.Cursor.{Cursor}
 use Rattle.ak_syntax.specs.declared.cursor.Until.{Until}
-use Rattle.ak_syntax.specs.declared.cursor.Until.TheVariants.{With}
+use Rattle.ak_syntax.specs.declared.cursor.Until.TheVariants.{LineEnd, With}
 use Rattle.ak_syntax.specs.declared.refusal.Fault.{Fault}
 use Rattle.ak_syntax.specs.declared.refusal.Fault.TheVariants.{Grammar, NoMemory}
 use Rattle.ak_syntax.specs.Names.{is_name}
 use Rattle.ak_syntax.proofs.Found.{ok_pair, some_is, bind_ok, bind_is, bind_err, good_pair, if_not}
-use Rattle.ak_syntax.specs.Words.{Bad, bad, ◌>>=◌, Refuses, listed_from, listed_at, list_from, ends_list, is_line_end, name_found, name_at, word_at, choices_from, plain, word_from}
+use Rattle.ak_syntax.specs.Words.{Bad, bad, ◌>>=◌, Refuses, listed_from, listed_at, list_from, ends_list, is_line_end, name_found, name_at, word_at, atom_found, raise_at, guard_args_from, choices_from, plain, word_from}
 
 -- the items that were read are put in front
 abbrev pub with_front : {T : Type 0} → List T → Result (List T × Cursor) Bad → Result (List T × Cursor) Bad
@@ -243,3 +248,94 @@ fewer_choices c left now word proc h second =
     let last = bind_ok (name_found at.0.0) ended (proc, now) at.2 in
     let same : at.0.1 ≡ now = (ok_pair last.2).1 in
     rw (sym same) (omega arith)
+
+-- ---- arguments of a guard
+abbrev pub Guarded : Type 0
+Guarded = Result ((List Atom × GuardMode) × Cursor) Bad
+
+abbrev pub guarded_front : List Atom → Guarded → Guarded
+guarded_front front rest = rest >>= λ r. Ok ((front ++ r.0.0, r.0.1), r.1)
+
+pub no_guarded_front : (rest : Guarded) → guarded_front [] rest ≡ rest
+no_guarded_front (Ok r) = refl
+no_guarded_front (Err e) = refl
+
+one_more_guarded : (front : List Atom) (x : Atom) (rest : Guarded) → guarded_front front (guarded_front (x ∷ []) rest) ≡ guarded_front (front ++ x ∷ []) rest
+one_more_guarded front x (Ok r) = ap (λ (xs : List Atom). good_pair (xs, r.0.1) r.1) (sym (append_assoc front (x ∷ []) r.0.0))
+one_more_guarded front x (Err e) = refl
+
+-- the next word is `rest`, or an argument
+arg_read : (c left : Cursor) (word : List ℕ) (x : Atom) (b : Bool) → listed_at LineEnd c ≡ Ok (Some word, left) → bytes_eq word (codes "rest") ≡ false
+    → atom_found word ≡ Ok (x, b)
+    → guard_args_from c.words c.faulty ≡ guarded_front (x ∷ []) (guard_args_from left.words (b || left.faulty))
+unfolding listed_at guard_args_from
+arg_read c left word x b h other is = let next = next_word LineEnd c.words c.faulty word left h in
+    rw (next.words_are) (rw (other, is, next.flag) refl)
+
+arg_refused : (c left : Cursor) (word : List ℕ) (kind : Bad) → listed_at LineEnd c ≡ Ok (Some word, left) → bytes_eq word (codes "rest") ≡ false
+    → atom_found word ≡ Err kind
+    → guard_args_from c.words c.faulty ≡ Err kind
+unfolding listed_at guard_args_from
+arg_refused c left word kind h other is = let next = next_word LineEnd c.words c.faulty word left h in
+    rw (next.words_are) (rw (other, is) refl)
+
+rest_read : (c left now : Cursor) (word : List ℕ) → listed_at LineEnd c ≡ Ok (Some word, left) → bytes_eq word (codes "rest") ≡ true
+    → raise_at left ≡ Ok (tt, now)
+    → guard_args_from c.words c.faulty ≡ Ok (([], guard.Raise), now)
+unfolding listed_at guard_args_from
+rest_read c left now word h here is = let next = next_word LineEnd c.words c.faulty word left h in
+    rw (next.words_are, sym next.flag) (rw (here, is) refl)
+
+rest_refused : (c left : Cursor) (word : List ℕ) (kind : Bad) → listed_at LineEnd c ≡ Ok (Some word, left) → bytes_eq word (codes "rest") ≡ true
+    → raise_at left ≡ Err kind
+    → guard_args_from c.words c.faulty ≡ Err kind
+unfolding listed_at guard_args_from
+rest_refused c left word kind h here is = let next = next_word LineEnd c.words c.faulty word left h in
+    rw (next.words_are, sym next.flag) (rw (here, is) refl)
+
+args_over : (words : List (List ℕ)) (faulty : Bool) (left : Cursor) → listed_from LineEnd words faulty ≡ Ok (None, left)
+    → guard_args_from words faulty ≡ Ok (([], guard.Drop), left)
+unfolding guard_args_from
+args_over [] faulty left h = ap (λ (l : Cursor). good_pair ([], guard.Drop) l) (ok_pair h).1
+args_over (first ∷ words) faulty left h = let none : Some first ≡ None = (ok_pair h).0 in cc
+
+never_refused : (words : List (List ℕ)) (faulty : Bool) (kind : Bad) → listed_from LineEnd words faulty ≡ Err kind → ⊥
+never_refused [] faulty kind h = cc
+never_refused (first ∷ words) faulty kind h = cc
+
+pub guard_goes_on : (c left now : Cursor) (front pushed : List Atom) (word : List ℕ) (x : Atom) (b : Bool) (whole : Guarded)
+    → guarded_front front (guard_args_from c.words c.faulty) ≡ whole → listed_at LineEnd c ≡ Ok (Some word, left) → bytes_eq word (codes "rest") ≡ false
+    → atom_found word ≡ Ok (x, b)
+    → pushed ≡ front ++ x ∷ [] → now.words ≡ left.words → now.faulty ≡ (b || left.faulty) → guarded_front pushed (guard_args_from now.words now.faulty) ≡ whole
+guard_goes_on c left now front pushed word x b whole so_far h other is grown words flag =
+    rw (grown, words, flag) (sym (one_more_guarded front x (guard_args_from left.words (b || left.faulty)))
+    ∙ ap (guarded_front front) (sym (arg_read c left word x b h other is)) ∙ so_far)
+
+pub guard_ends : (c left : Cursor) (front : List Atom) (whole : Guarded) → guarded_front front (guard_args_from c.words c.faulty) ≡ whole
+    → listed_at LineEnd c ≡ Ok (None, left)
+    → whole ≡ Ok ((front, guard.Drop), left)
+unfolding listed_at
+guard_ends c left front whole so_far h =
+    sym so_far ∙ ap (guarded_front front) (args_over c.words c.faulty left h) ∙ ap (λ (xs : List Atom). good_pair (xs, guard.Drop) left) (append-nil front)
+
+pub guard_raises : (c left now : Cursor) (front : List Atom) (word : List ℕ) (whole : Guarded)
+    → guarded_front front (guard_args_from c.words c.faulty) ≡ whole → listed_at LineEnd c ≡ Ok (Some word, left)
+    → bytes_eq word (codes "rest") ≡ true → raise_at left ≡ Ok (tt, now) → whole ≡ Ok ((front, guard.Raise), now)
+guard_raises c left now front word whole so_far h here is =
+    sym so_far ∙ ap (guarded_front front) (rest_read c left now word h here is)
+    ∙ ap (λ (xs : List Atom). good_pair (xs, guard.Raise) now) (append-nil front)
+
+pub guard_stops : (c : Cursor) (front : List Atom) (whole : Guarded) (kind : Bad) → guarded_front front (guard_args_from c.words c.faulty) ≡ whole
+    → listed_at LineEnd c ≡ Err kind → whole ≡ Err kind
+unfolding listed_at
+guard_stops c front whole kind so_far h = absurd (never_refused c.words c.faulty kind h)
+
+pub guard_stops_raise : (c left : Cursor) (front : List Atom) (word : List ℕ) (whole : Guarded) (kind : Bad)
+    → guarded_front front (guard_args_from c.words c.faulty) ≡ whole
+    → listed_at LineEnd c ≡ Ok (Some word, left) → bytes_eq word (codes "rest") ≡ true → raise_at left ≡ Err kind → whole ≡ Err kind
+guard_stops_raise c left front word whole kind so_far h here is = sym so_far ∙ ap (guarded_front front) (rest_refused c left word kind h here is)
+
+pub guard_stops_at : (c left : Cursor) (front : List Atom) (word : List ℕ) (whole : Guarded) (kind : Bad)
+    → guarded_front front (guard_args_from c.words c.faulty) ≡ whole
+    → listed_at LineEnd c ≡ Ok (Some word, left) → bytes_eq word (codes "rest") ≡ false → atom_found word ≡ Err kind → whole ≡ Err kind
+guard_stops_at c left front word whole kind so_far h other is = sym so_far ∙ ap (guarded_front front) (arg_refused c left word kind h other is)

@@ -1,5 +1,5 @@
 -- A text is a script, or has one fault.
-use Rattle.std.proofs.Common.{◌≡◌, ℕ, ◌+◌, ◌<◌, ◌≤◌, Bool, true, false, ◌⊎◌, inl, inr, Option, Some, None, Result, Ok, Err, List, [], ◌∷◌, length, filter, refl, sym, ap, ◌∙◌, subst, arith}
+use Rattle.std.proofs.Common.{◌≡◌, ℕ, ◌+◌, ◌<◌, ◌≤◌, Bool, true, false, ◌⊎◌, inl, inr, Option, Some, None, Result, Ok, Err, List, [], ◌∷◌, ◌++◌, length, filter, refl, sym, ap, ◌∙◌, subst, arith}
 use Rattle.std.proofs.lemmas.List.{append-nil}
 use Rattle.std.specs.List.{AllZip, AllByRecursion}
 use Rattle.ak_text.specs.Lines.{TextLine, text_lines, numbered, lines_of}
@@ -11,9 +11,10 @@ use Rattle.ak_syntax.specs.declared.refusal.ParseRefused.{ParseRefused}
 use Rattle.ak_syntax.specs.declared.refusal.ParseRefused.TheVariants.{At, NoMemory}
 use Rattle.ak_syntax.specs.Answers.{IsScript, IsFault, IsRight}
 use Rattle.ak_syntax.specs.Faults.{kind_number, Front, IsFront, HasFaultAt, EndsInside, GrammarFault}
-use Rattle.ak_syntax.specs.Grammar.{Reads, IsLine, ProcIsWithin, counts, forms}
+use Rattle.ak_syntax.specs.declared.version.Version.{Version}
+use Rattle.ak_syntax.specs.Grammar.{Reads, IsLine, ProcIsWithin, counts, version_forms, forms}
 use Rattle.ak_syntax.specs.Lines.{Placed, scanned, no_lines, closed_by, Tells}
-use Rattle.ak_syntax.proofs.Fronts.{fault_is}
+use Rattle.ak_syntax.proofs.Fronts.{front_of, fault_is}
 use Rattle.ak_syntax.proofs.Walks.{walk, walk_next, last_number, closed, scanned_walk, walk_kept, walk_append, walk_ok, walk_err, AllCount, all_at, front_walked}
 
 -- ---- the lines that count
@@ -52,26 +53,28 @@ abbrev pub RightOf : List ℕ → Result (List Proc) Placed → Type 0
 RightOf bytes (Ok script) = Reads bytes script
 RightOf bytes (Err p) = GrammarFault bytes p.0 p.1
 
-front_reads : (bytes : List ℕ) (procs : List Proc) → length bytes ≤ 1048576 → IsFront (record { procs = procs; begun = None }) (kept bytes) → Reads bytes procs
-front_reads bytes procs size h = record {
+front_reads : (bytes : List ℕ) (v : Version) (procs : List Proc) → length bytes ≤ 1048576 → IsFront (front_of v procs) (kept bytes) → Reads bytes procs
+front_reads bytes v procs size h = record {
   size = size;
-  lines = subst (λ (fs : List Form). AllZip IsLine fs (kept bytes)) (append-nil (forms procs)) h.lines;
+  of_version = v;
+  lines = subst (λ (fs : List Form). AllZip IsLine (version_forms v ++ fs) (kept bytes)) (append-nil (forms procs)) h.lines;
   procs = subst (λ (ps : List Proc). length ps ≤ 4096) (append-nil procs) h.procs;
-  each = subst (λ (ps : List Proc). AllByRecursion ProcIsWithin ps) (append-nil procs) h.each;
+  each = subst (λ (ps : List Proc). AllByRecursion (ProcIsWithin v) ps) (append-nil procs) h.each;
 }
 
-reads_front : (bytes : List ℕ) (script : List Proc) → Reads bytes script → IsFront (record { procs = script; begun = None }) (kept bytes)
+reads_front : (bytes : List ℕ) (script : List Proc) (h : Reads bytes script) → IsFront (front_of h.of_version script) (kept bytes)
 reads_front bytes script h = record {
-  lines = subst (λ (fs : List Form). AllZip IsLine fs (kept bytes)) (sym (append-nil (forms script))) h.lines;
+  lines = subst (λ (fs : List Form). AllZip IsLine (version_forms h.of_version ++ fs) (kept bytes)) (sym (append-nil (forms script))) h.lines;
   procs = subst (λ (ps : List Proc). length ps ≤ 4096) (sym (append-nil script)) h.procs;
-  each = subst (λ (ps : List Proc). AllByRecursion ProcIsWithin ps) (sym (append-nil script)) h.each;
+  each = subst (λ (ps : List Proc). AllByRecursion (ProcIsWithin h.of_version) ps) (sym (append-nil script)) h.each;
 }
 
 closed_right : (bytes : List ℕ) → length bytes ≤ 1048576 → (w : Result Front Placed) → walked bytes ≡ w → RightOf bytes (closed (length (text_lines bytes)) w)
 closed_right bytes size (Ok front) is = of front.begun refl (walk_ok (kept bytes) no_lines front [] (all_count (text_lines bytes)) no_front is)
   where
     of : (begun : Option Proc) → front.begun ≡ begun → IsFront front (kept bytes) → RightOf bytes (closed_by (length (text_lines bytes)) front.procs begun)
-    of None e h = front_reads bytes front.procs size (subst (λ (b : Option Proc). IsFront (record { procs = front.procs; begun = b }) (kept bytes)) e h)
+    of None e h = front_reads bytes front.of_version front.procs size
+        (subst (λ (b : Option Proc). IsFront (record { of_version = front.of_version; procs = front.procs; begun = b }) (kept bytes)) e h)
     of (Some proc) e h = inr (size, inr (record { front = front; proc = proc; begun = e; right = h; at = refl; is_bad = refl }))
 closed_right bytes size (Err p) is =
     let x = walk_err (kept bytes) no_lines p.0 p.1 [] (all_count (text_lines bytes)) no_front is in
@@ -83,7 +86,7 @@ found_right bytes size = subst (RightOf bytes) (sym (scan_is bytes)) (closed_rig
 -- ---- what is right is found
 pub reads_found : (bytes : List ℕ) (script : List Proc) → Reads bytes script → scanned no_lines 0 (text_lines bytes) ≡ Ok script
 reads_found bytes script h =
-    scan_is bytes ∙ ap (closed (length (text_lines bytes))) (front_walked (record { procs = script; begun = None }) (kept bytes) (reads_front bytes script h))
+    scan_is bytes ∙ ap (closed (length (text_lines bytes))) (front_walked (front_of h.of_version script) (kept bytes) (reads_front bytes script h))
 
 fault_found : (bytes : List ℕ) (number : ℕ) (kind : GrammarKind) → HasFaultAt bytes number kind → walked bytes ≡ Err (number, kind)
 fault_found bytes number kind h =

@@ -8,7 +8,7 @@ use Rattle.ak_syntax.specs.Keywords.{value_named, deferred_named, group_named, j
 use Rattle.ak_syntax.specs.Rows.{value_row, statement_at, deferred_row, group_row, job_row, monitor_row, throttle_row, pipe_row, closing_row, pool_row}
 use Rattle.ak_syntax.specs.Table.{row, HasDeferreds}
 use Rattle.ak_syntax.proofs.Meets.{Meets}
-use Rattle.ak_syntax.proofs.Shapes.{row_complete, refl_at, then_part, choices_part, some_names_last, args_last, one_name_last, one_atom_last, name_atom_last, two_names_last, work_atom_last, call_last, two_calls_last}
+use Rattle.ak_syntax.proofs.Shapes.{row_complete, refl_at, then_part, choices_part, some_names_last, args_last, one_name_last, one_atom_last, name_atom_last, two_names_last, work_atom_last, call_last, two_calls_last, guarded_calls_last}
 use Rattle.ak_syntax.proofs.Items.{name_part, atom_part, operator_part, mode_part, count_part}
 use Rattle.ak_syntax.proofs.Parts.{both_last, end_last}
 
@@ -29,7 +29,10 @@ statement_complete (Never r) first cursor after good met = row_complete (λ t. N
 statement_complete (All r deferreds proc args) first cursor after good met = row_complete (λ t. All t.0 t.1.0 t.1.1.0 t.1.1.1) (codes "all") (both_last name_part (both_last then_part call_last)) (r, (deferreds, (proc, args))) first cursor after (refl_at (statement_at (codes "all") cursor)) (tt, (good, tt)) met
 statement_complete (Any r deferreds) first cursor after good met = row_complete (λ t. Any t.0 t.1) (codes "any") (both_last name_part some_names_last) (r, deferreds) first cursor after (refl_at (statement_at (codes "any") cursor)) (tt, good) met
 statement_complete (Choose r choices args) first cursor after good met = row_complete (λ t. Choose t.0 t.1.0 t.1.1) (codes "choose") (both_last name_part (both_last choices_part args_last)) (r, (choices, args)) first cursor after (refl_at (statement_at (codes "choose") cursor)) (tt, (good, tt)) met
-statement_complete (Try r proc args catch catch_args) first cursor after good met = row_complete (λ t. Try t.0 t.1.0 t.1.1 t.1.2 t.1.3) (codes "try") (both_last name_part two_calls_last) (r, (proc, args, catch, catch_args)) first cursor after (refl_at (statement_at (codes "try") cursor)) (tt, tt) met
+statement_complete (Try r proc args catch catch_args mode) first cursor after good met =
+    row_complete (λ t. Try t.0 t.1.0 t.1.1 t.1.2 t.1.3 t.1.4) (codes "try") (both_last name_part guarded_calls_last)
+    (r, (proc, args, catch, catch_args, mode)) first cursor after
+    (refl_at (statement_at (codes "try") cursor)) (tt, tt) met
 statement_complete (Sched proc args) first cursor after good met = row_complete (λ t. Sched t.0 t.1) (codes "sched") call_last (proc, args) first cursor after (refl_at (statement_at (codes "sched") cursor)) tt met
 statement_complete (Low proc args) first cursor after good met = row_complete (λ t. Low t.0 t.1) (codes "low") call_last (proc, args) first cursor after (refl_at (statement_at (codes "low") cursor)) tt met
 statement_complete (After r n) first cursor after good met = row_complete (λ t. After t.0 t.1) (codes "after") name_atom_last (r, n) first cursor after (refl_at (statement_at (codes "after") cursor)) tt met

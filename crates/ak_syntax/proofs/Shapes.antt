@@ -1,5 +1,5 @@
 -- The lists of a line, the last words of rows, and whole rows, both ways.
-use Rattle.std.proofs.Common.{◌≡◌, ℕ, ◌≤◌, Bool, true, false, ◌⊎◌, inl, inr, Option, Some, None, Result, Ok, Err, List, [], ◌∷◌, ◌++◌, length, map, refl, sym, ap, ◌∙◌, subst}
+use Rattle.std.proofs.Common.{◌≡◌, ℕ, ◌≤◌, Bool, true, false, ◌||◌, ◌⊎◌, inl, inr, Option, Some, None, Result, Ok, Err, List, [], ◌∷◌, ◌++◌, length, map, refl, sym, ap, ◌∙◌, subst}
 use Rattle.std.proofs.lemmas.Slice.Eq.{bytes_eq-Decides}
 use Rattle.std.specs.Prelude.{codes}
 use Rattle.std.specs.List.{flat_map, find}
@@ -8,17 +8,19 @@ use Rattle.ak_script.specs.declared.script.Param.{Param}
 use Rattle.ak_script.specs.declared.statement.Atom.{Atom}
 use Rattle.ak_script.specs.declared.statement.Atom.TheVariants.{Literal, Local}
 use Rattle.ak_script.specs.declared.statement.Choice.{Choice}
+use Rattle.ak_script.specs.declared.statement.GuardMode.{GuardMode}
+use Rattle.ak_script.specs.declared.statement.GuardMode.TheVariants as guard
 use Rattle.ak_script.specs.declared.statement.Stmt.{Stmt}
 use Rattle.ak_script.specs.declared.statement.WorkWord.{WorkWord}
 use Rattle.ak_syntax.specs.declared.cursor.Cursor.{Cursor}
 use Rattle.ak_syntax.specs.declared.cursor.Until.TheVariants.{LineEnd, Then, With, Else}
 use Rattle.ak_syntax.specs.Names.{is_name, is_number_word, work_word}
-use Rattle.ak_syntax.specs.Table.{Place, Exactly, Named, Valued, Typed, Stands, row, choice_places, HasDeferreds}
-use Rattle.ak_syntax.specs.Words.{Bad, bad, ◌>>=◌, Part, mapped, name_found, atom_found, param_found, plain, args_at, names_at, params_at, some_names_at, choices_from, some_choices_at, ends_list}
-use Rattle.ak_syntax.specs.Rows.{row_or, statement_at, one_name_at, one_atom_at, name_atom_at, two_names_at, work_atom_at, call_at, two_calls_at}
+use Rattle.ak_syntax.specs.Table.{Place, Exactly, Named, Valued, Typed, Stands, row, choice_places, mode_places, HasDeferreds}
+use Rattle.ak_syntax.specs.Words.{Bad, bad, ◌>>=◌, Part, mapped, name_found, atom_found, param_found, plain, args_at, raise_at, guard_args_from, guard_args_at, names_at, params_at, some_names_at, choices_from, some_choices_at, ends_list}
+use Rattle.ak_syntax.specs.Rows.{row_or, statement_at, one_name_at, one_atom_at, name_atom_at, two_names_at, work_atom_at, call_at, two_calls_at, guarded_calls_at}
 use Rattle.ak_syntax.proofs.Found.{ok_pair, bind_ok, bind_is, if_not, if_so, chosen, good_pair}
-use Rattle.ak_syntax.proofs.Meets.{Meets, Case}
-use Rattle.ak_syntax.proofs.Items.{table_found, is_number, name_plain, name_part, atom_item, atom_part, work_part, param_plain}
+use Rattle.ak_syntax.proofs.Meets.{Meets, Case, step, unstep}
+use Rattle.ak_syntax.proofs.Items.{table_found, is_number, exactly_part, name_plain, name_part, atom_item, atom_part, work_part, param_plain}
 use Rattle.ak_syntax.proofs.Parts.{IsPart, IsLast, Always, both_last, mapped_last, end_last, list_last, list_part, plain_item, filled_part, filled_last, image}
 
 -- ---- lists
@@ -185,6 +187,103 @@ two_calls_shape t = Named t.0 ∷ (map Valued t.1 ++ Exactly (codes "else") ∷ 
 pub two_calls_last : IsLast (Always {T = List ℕ × List Atom × List ℕ × List Atom}) two_calls_shape two_calls_at
 unfolding two_calls_at
 two_calls_last = trivial (mapped_last (λ t. (t.0, t.1.0, t.1.1.0, t.1.1.1)) (λ n. (n.0, (n.1, (n.2, n.3)))) (λ t. refl) (λ n. refl) (both_last name_part (both_last else_part (both_last name_part args_last)))) (λ t. (tt, (tt, (tt, tt))))
+
+-- ---- the arguments of a guard
+abbrev Guarded : Type 0
+Guarded = List Atom × GuardMode
+
+abbrev guarded_shape : Guarded → List Place
+guarded_shape t = map Valued t.0 ++ mode_places t.1
+
+raise_last : IsLast (Always {T = Unit {0}}) (λ (u : Unit {0}). Exactly (codes "raise") ∷ []) raise_at
+unfolding raise_at
+raise_last = trivial (mapped_last (λ t. tt) (λ u. (tt, tt)) (λ t. refl) (λ u. refl) (both_last (exactly_part (codes "raise")) end_last)) (λ t. (tt, tt))
+
+abbrev raised : Unit {0} × Cursor → Result (Guarded × Cursor) Bad
+raised u = Ok (([], guard.Raise), u.1)
+
+abbrev one_arg : Atom → Guarded × Cursor → Result (Guarded × Cursor) Bad
+one_arg a rest = Ok ((a ∷ rest.0.0, rest.0.1), rest.1)
+
+abbrev other_args : List (List ℕ) → Bool → Atom × Bool → Result (Guarded × Cursor) Bad
+other_args words faulty x = guard_args_from words (x.1 || faulty) >>= one_arg x.0
+
+guarded_step : (word : List ℕ) (words : List (List ℕ)) (faulty : Bool) (left : Cursor) (t : Guarded)
+    → ((next : Bool) (read : Guarded × Cursor) → guard_args_from words next ≡ Ok (read.0, read.1) → Meets next (guarded_shape read.0) words read.1.faulty)
+    → ((bytes_eq word (codes "rest") ≡ true) × ((raise_at (record { words = words; faulty = faulty }) >>= raised) ≡ good_pair t left))
+    ⊎ ((bytes_eq word (codes "rest") ≡ false) × ((atom_found word >>= other_args words faulty) ≡ good_pair t left))
+    → Meets faulty (guarded_shape t) (word ∷ words) left.faulty
+guarded_step word words faulty left t rest (inl e) =
+    let x = bind_ok (raise_at (record { words = words; faulty = faulty })) raised (t, left) e.1 in
+    let same = ok_pair x.2 in
+    let r = raise_last.sound (record { words = words; faulty = faulty }) x.0.1 x.0.0 x.1 in
+    let flag : Meets faulty (Exactly (codes "raise") ∷ []) words left.faulty =
+    subst (λ (l : Cursor). Meets faulty (Exactly (codes "raise") ∷ []) words l.faulty) same.1 r.1 in
+    subst (λ (u : Guarded). Meets faulty (guarded_shape u) (word ∷ words) left.faulty) same.0
+    (inl ((bytes_eq-Decides word (codes "rest")).0 e.0, flag))
+guarded_step word words faulty left t rest (inr e) =
+    let y = bind_ok (atom_found word) (other_args words faulty) (t, left) e.1 in
+    let z = bind_ok (guard_args_from words (y.0.1 || faulty)) (one_arg y.0.0) (t, left) y.2 in
+    let same = ok_pair z.2 in
+    let more : Meets (y.0.1 || faulty) (guarded_shape z.0.0) words left.faulty =
+    subst (λ (l : Cursor). Meets (y.0.1 || faulty) (guarded_shape z.0.0) words l.faulty) same.1 (rest (y.0.1 || faulty) z.0 z.1) in
+    subst (λ (u : Guarded). Meets faulty (guarded_shape u) (word ∷ words) left.faulty) same.0
+    (step y.0.1 faulty (Valued y.0.0) word (guarded_shape z.0.0) words left.faulty (atom_item.sound word y.0.0 y.0.1 y.1) more)
+
+guarded_sound : (words : List (List ℕ)) (faulty : Bool) (left : Cursor) (t : Guarded) → guard_args_from words faulty ≡ Ok (t, left)
+    → Meets faulty (guarded_shape t) words left.faulty
+unfolding guard_args_from
+guarded_sound [] faulty left t h =
+    let same = ok_pair h in
+    subst (λ (u : Guarded). Meets faulty (guarded_shape u) [] left.faulty) same.0 (ap (λ (c : Cursor). c.faulty) (sym same.1))
+guarded_sound (word ∷ words) faulty left t h =
+    guarded_step word words faulty left t (λ next read. guarded_sound words next read.1 read.0)
+    (chosen (bytes_eq word (codes "rest")) (raise_at (record { words = words; faulty = faulty }) >>= raised)
+    (atom_found word >>= other_args words faulty) (good_pair t left) h)
+
+guarded_complete : (words : List (List ℕ)) (faulty : Bool) (xs : List Atom) (mode : GuardMode) (after : Bool)
+    → Meets faulty (map Valued xs ++ mode_places mode) words after
+    → (left : Cursor) × (guard_args_from words faulty ≡ Ok ((xs, mode), left)) × (left.faulty ≡ after)
+unfolding guard_args_from
+guarded_complete [] faulty [] guard.Drop after m = (record { words = []; faulty = faulty }, refl, sym m)
+guarded_complete [] faulty [] guard.Raise after m = absurd m
+guarded_complete [] faulty (x ∷ xs) mode after m = absurd m
+guarded_complete (word ∷ words) faulty [] guard.Drop after m = absurd m
+guarded_complete (word ∷ words) faulty [] guard.Raise after (inr m) = absurd m.0
+guarded_complete (word ∷ words) faulty [] guard.Raise after (inl m) =
+    let c : Cursor = record { words = words; faulty = faulty } in
+    let x = raise_last.complete (record { words = words; faulty = faulty }) tt after tt m.1 in (
+      x.0,
+      if_so (bytes_eq word (codes "rest")) (raise_at (record { words = words; faulty = faulty }) >>= raised) (atom_found word >>= other_args words faulty)
+          ((bytes_eq-Decides word (codes "rest")).1 m.0)
+          ∙ bind_is (raise_at (record { words = words; faulty = faulty })) raised (tt, x.0) x.1,
+      x.2,
+    )
+guarded_complete (word ∷ words) faulty (x ∷ xs) mode after m =
+    let s = unstep faulty (Valued x) word (map Valued xs ++ mode_places mode) words after m in
+    let r = guarded_complete words (s.0 || faulty) xs mode after s.2 in (
+      r.0,
+      if_not (bytes_eq word (codes "rest")) (raise_at (record { words = words; faulty = faulty }) >>= raised) (atom_found word >>= other_args words faulty)
+          (atom_other (codes "rest") refl refl word x s.0 s.1)
+          ∙ bind_is (atom_found word) (other_args words faulty) (x, s.0) (atom_item.complete word x s.0 s.1)
+          ∙ bind_is (guard_args_from words (s.0 || faulty)) (one_arg x) ((xs, mode), r.0) r.1,
+      r.2,
+    )
+
+guard_args_last : IsLast (Always {T = Guarded}) guarded_shape guard_args_at
+guard_args_last = record {
+  sound = λ c left t h. (tt, guarded_sound c.words c.faulty left t h);
+  complete = λ c t after g m. guarded_complete c.words c.faulty t.0 t.1 after m;
+}
+
+abbrev guarded_calls_shape : List ℕ × List Atom × List ℕ × List Atom × GuardMode → List Place
+guarded_calls_shape t = Named t.0 ∷ (map Valued t.1 ++ Exactly (codes "else") ∷ Named t.2 ∷ (map Valued t.3 ++ mode_places t.4))
+
+pub guarded_calls_last : IsLast (Always {T = List ℕ × List Atom × List ℕ × List Atom × GuardMode}) guarded_calls_shape guarded_calls_at
+unfolding guarded_calls_at
+guarded_calls_last =
+    trivial (mapped_last (λ t. (t.0, t.1.0, t.1.1.0, t.1.1.1.0, t.1.1.1.1)) (λ n. (n.0, (n.1, (n.2, (n.3, n.4))))) (λ t. refl) (λ n. refl)
+    (both_last name_part (both_last else_part (both_last name_part guard_args_last)))) (λ t. (tt, (tt, (tt, tt))))
 
 -- ---- whole rows
 -- the statement has the words: the first, and those that were taken

@@ -24,7 +24,7 @@ use Rattle.ak_syntax.specs.declared.keyword.PoolWord.{PoolWord}
 use Rattle.ak_syntax.specs.declared.keyword.PoolWord.TheVariants as pool
 use Rattle.ak_syntax.specs.Keywords.{value_word, all_values, value_named, deferred_word, all_deferreds, deferred_named, group_word, all_groups, group_named, job_word, all_jobs, job_named, monitor_word, all_monitors, monitor_named, throttle_word, all_throttles, throttle_named, pipe_word, all_pipes, pipe_named, closing_word, all_closings, closing_named, pool_word, all_works, pool_named}
 use Rattle.ak_syntax.specs.Rows.{row_or, value_row, statement_at, deferred_row, group_row, job_row, monitor_row, throttle_row, pipe_row, closing_row, pool_row}
-use Rattle.ak_syntax.proofs.Shapes.{IsRowOf, row_sound, row_or_sound, no_row, no_row_found, then_part, choices_part, some_names_last, args_last, one_name_last, one_atom_last, name_atom_last, two_names_last, work_atom_last, call_last, two_calls_last}
+use Rattle.ak_syntax.proofs.Shapes.{IsRowOf, row_sound, row_or_sound, no_row, no_row_found, then_part, choices_part, some_names_last, args_last, one_name_last, one_atom_last, name_atom_last, two_names_last, work_atom_last, call_last, two_calls_last, guarded_calls_last}
 use Rattle.ak_syntax.proofs.Items.{name_part, atom_part, operator_part, mode_part, count_part}
 use Rattle.ak_syntax.proofs.Parts.{both_last, end_last}
 
@@ -51,7 +51,8 @@ unfolding group_row
 group_row_sound group.All c left s h = row_sound (λ t. All t.0 t.1.0 t.1.1.0 t.1.1.1) (codes "all") (both_last name_part (both_last then_part call_last)) (λ t. refl) (λ t g. g.1.0) c left s h
 group_row_sound group.Any c left s h = row_sound (λ t. Any t.0 t.1) (codes "any") (both_last name_part some_names_last) (λ t. refl) (λ t g. g.1) c left s h
 group_row_sound group.Choose c left s h = row_sound (λ t. Choose t.0 t.1.0 t.1.1) (codes "choose") (both_last name_part (both_last choices_part args_last)) (λ t. refl) (λ t g. g.1.0) c left s h
-group_row_sound group.Try c left s h = row_sound (λ t. Try t.0 t.1.0 t.1.1 t.1.2 t.1.3) (codes "try") (both_last name_part two_calls_last) (λ t. refl) (λ t g. tt) c left s h
+group_row_sound group.Try c left s h =
+    row_sound (λ t. Try t.0 t.1.0 t.1.1 t.1.2 t.1.3 t.1.4) (codes "try") (both_last name_part guarded_calls_last) (λ t. refl) (λ t g. tt) c left s h
 
 job_row_sound : (first : JobWord) (c left : Cursor) (s : Stmt) → job_row first c ≡ Ok (s, left) → IsRowOf (job_word first) c s left
 unfolding job_row

@@ -11,14 +11,16 @@ use Rattle.ak_script.specs.declared.script.Proc.{Proc}
 use Rattle.ak_script.specs.declared.statement.Stmt.{Stmt}
 use Rattle.ak_script.specs.declared.statement.Stmt.TheVariants.{Upon, Bind, All, Any, Choose, Sched, Low, Within, OnError, Try, Throttle, Enqueue, Pipe, Read}
 use Rattle.ak_syntax.specs.declared.line_form.Form.{Form}
-use Rattle.ak_syntax.specs.declared.line_form.Form.TheVariants.{Head, Body, End}
+use Rattle.ak_syntax.specs.declared.line_form.Form.TheVariants.{Async, Head, Body, End}
 use Rattle.ak_syntax.specs.declared.refusal.GrammarKind.{GrammarKind}
 use Rattle.ak_syntax.specs.declared.refusal.GrammarKind.TheVariants.{BadLine, TooMany, BadNumber}
-use Rattle.ak_syntax.specs.Table.{Stands, row, binds, longest_list, HasDeferreds, IsWithin}
-use Rattle.ak_syntax.specs.Grammar.{prefix_places, IsLine, counts, locals, forms, StatementIsWithin, ProcIsWithin}
-use Rattle.ak_syntax.specs.Faults.{IsShaped, Front, begun_forms, front_forms, begun_procs, IsFront, MayFollow, Exceeds, LineFault}
+use Rattle.ak_syntax.specs.declared.version.Version.{Version}
+use Rattle.ak_syntax.specs.declared.version.Version.TheVariants as version
+use Rattle.ak_syntax.specs.Table.{Stands, row, binds, longest_list, HasDeferreds, IsWithin, is_in}
+use Rattle.ak_syntax.specs.Grammar.{prefix_places, IsLine, counts, locals, version_forms, forms, StatementIsWithin, ProcIsWithin}
+use Rattle.ak_syntax.specs.Faults.{IsShaped, Front, begun_forms, front_forms, begun_procs, IsFront, IsEmpty, MayFollow, Exceeds, LineFault}
 use Rattle.ak_syntax.specs.Lines.{Placed, scanned, taken, then_lines, closed_by, grown, no_lines}
-use Rattle.ak_syntax.proofs.Fronts.{front_with, front_in, outcome, misplaced, over, wrong, right, Read as ReadLine, shapeless, read, line_read, line_skipped, clean_line, fault_found, right_taken}
+use Rattle.ak_syntax.proofs.Fronts.{front_with, front_of, front_in, outcome, misplaced, over, wrong, right, Read as ReadLine, shapeless, read, line_read, line_skipped, clean_line, fault_found, right_taken}
 
 -- ---- walking over lines
 abbrev pub walk_next : ℕ → Result Front GrammarKind → (Front → Result Front Placed) → Result Front Placed
@@ -120,7 +122,7 @@ within_longest (Sched proc args) h = h
 within_longest (Low proc args) h = h
 within_longest (Within m proc args) h = h
 within_longest (OnError m proc args) h = h
-within_longest (Try r proc args catch catch_args) h = omega (arith, h.0, h.1)
+within_longest (Try r proc args catch catch_args mode) h = omega (arith, h.0, h.1)
 within_longest (Enqueue r t proc args) h = h
 within_longest (Read r p proc args eof eof_args) h = omega (arith, h.0, h.1)
 within_longest _ h = omega arith
@@ -142,7 +144,7 @@ within_of (Sched proc args) words few has h = few
 within_of (Low proc args) words few has h = few
 within_of (Within m proc args) words few has h = few
 within_of (OnError m proc args) words few has h = few
-within_of (Try r proc args catch catch_args) words few has h = (omega arith, omega arith)
+within_of (Try r proc args catch catch_args mode) words few has h = (omega arith, omega arith)
 within_of (Enqueue r t proc args) words few has h = few
 within_of (Read r p proc args eof eof_args) words few has h = (omega arith, omega arith)
 within_of (Throttle t k stop) [] few has h = absurd h
@@ -177,70 +179,101 @@ forms_append [] ys = refl
 forms_append (x ∷ xs) ys = ap (λ (rest : List Form). Head x.name x.line x.params ∷ rest)
     (ap (λ (rest : List Form). map Body x.body ++ End ∷ rest) (forms_append xs ys) ∙ sym (append_assoc (map Body x.body) (End ∷ forms xs) (forms ys)))
 
-head_front : (procs : List Proc) (name : List ℕ) (number : ℕ) (params : List Param) (before : List TextLine) (line : TextLine) → IsFront (record { procs = procs; begun = None }) before
-    → IsLine (Head name number params) line → (Exceeds (record { procs = procs; begun = None }) (Head name number params) → ⊥) → IsFront (front_in procs (record { name = name; line = number; params = params; body = [] })) (before ++ line ∷ [])
-head_front procs name number params before line h is few =
+-- one more line behind those of the version and others
+pushed : (v : Version) (fs gs : List Form) (before : List TextLine) (f : Form) (line : TextLine) → AllZip IsLine (version_forms v ++ fs) before
+    → IsLine f line → fs ++ f ∷ [] ≡ gs
+    → AllZip IsLine (version_forms v ++ gs) (before ++ line ∷ [])
+pushed v fs gs before f line h is e =
+    subst (λ (all : List Form). AllZip IsLine all (before ++ line ∷ []))
+    (append_assoc (version_forms v) fs (f ∷ []) ∙ ap (λ (rest : List Form). version_forms v ++ rest) e)
+    (zip_push IsLine (version_forms v ++ fs) before f line h is)
+
+head_front : (v : Version) (procs : List Proc) (name : List ℕ) (number : ℕ) (params : List Param) (before : List TextLine) (line : TextLine)
+    → IsFront (front_of v procs) before
+    → IsLine (Head name number params) line → (Exceeds (front_of v procs) (Head name number params) → ⊥)
+    → IsFront (front_in v procs (record { name = name; line = number; params = params; body = [] })) (before ++ line ∷ [])
+head_front v procs name number params before line h is few =
     let short : length params ≤ 8 = not_over 8 (length params) (λ e. few (inl e)) in
     let room : length procs + 1 ≤ 4096 = not_over 4096 (length procs + 1) (λ e. few (inr e)) in
     let proc : Proc = record { name = name; line = number; params = params; body = [] } in
-    let within : ProcIsWithin (record { name = name; line = number; params = params; body = [] }) = record { params = short; statements = omega arith; locals = rw (append-nil params) (omega (arith, short)); each = tt } in
+    let within : ProcIsWithin v (record { name = name; line = number; params = params; body = [] }) = record { params = short; statements = omega arith; locals = rw (append-nil params) (omega (arith, short)); each = tt } in
     record {
-      lines = rw (append-nil (forms procs)) at (zip_push IsLine (forms procs ++ []) before (Head name number params) line h.lines is);
+      lines =
+          pushed v (forms procs ++ []) (forms procs ++ Head name number params ∷ []) before (Head name number params) line h.lines is
+          (ap (λ (fs : List Form). fs ++ Head name number params ∷ []) (append-nil (forms procs)));
       procs = omega (arith, room, length-append procs (record { name = name; line = number; params = params; body = [] } ∷ []));
-      each = all_push ProcIsWithin procs (record { name = name; line = number; params = params; body = [] }) (rw (append-nil procs) at h.each) within;
+      each = all_push (ProcIsWithin v) procs (record { name = name; line = number; params = params; body = [] }) (rw (append-nil procs) at h.each) within;
     }
   where
     not_over : (limit n : ℕ) → (limit < n → ⊥) → n ≤ limit
     not_over limit n h = grind arith
 
-body_front : (procs : List Proc) (proc : Proc) (statement : Statement) (before : List TextLine) (line : TextLine) → IsFront (front_in procs proc) before → IsLine (Body statement) line → IsShaped (Body statement)
-    → (Exceeds (front_in procs proc) (Body statement) → ⊥) → IsFront (front_in procs (grown proc statement)) (before ++ line ∷ [])
-body_front procs proc statement before line h is shaped few =
+body_front : (v : Version) (procs : List Proc) (proc : Proc) (statement : Statement) (before : List TextLine) (line : TextLine)
+    → IsFront (front_in v procs proc) before → IsLine (Body statement) line → IsShaped (Body statement) → is_in v statement.stmt ≡ true
+    → (Exceeds (front_in v procs proc) (Body statement) → ⊥) → IsFront (front_in v procs (grown proc statement)) (before ++ line ∷ [])
+body_front v procs proc statement before line h is shaped may few =
     let short : longest_list statement.stmt ≤ 8 = not_over 8 (longest_list statement.stmt) (λ e. few (inl e)) in
     let room : length proc.body + 1 ≤ 64 = not_over 64 (length proc.body + 1) (λ e. few (inr (inl e))) in
     let bound : length (locals proc) + length (binds statement.stmt) ≤ 64 = not_over 64 (length (locals proc) + length (binds statement.stmt)) (λ e. few (inr (inr e))) in
-    let old : ProcIsWithin proc = all_at ProcIsWithin procs [] proc h.each in
+    let old : ProcIsWithin v proc = all_at (ProcIsWithin v) procs [] proc h.each in
     let words = stmt_words statement.prefix statement.stmt (words_of line.text) is.words in
-    let within : StatementIsWithin statement = (shaped.0, within_of statement.stmt words.0 short shaped.1 words.1) in
+    let within : StatementIsWithin v statement = (shaped.0, within_of statement.stmt words.0 short shaped.1 words.1, may) in
     let local : locals (grown proc statement) ≡ locals proc ++ binds statement.stmt =
     ap (λ (rest : List Param). proc.params ++ rest) (flat_append bound_by proc.body (statement ∷ []) ∙ ap (λ (rest : List Param). flat_map bound_by proc.body ++ rest) (append-nil (binds statement.stmt)))
     ∙ sym (append_assoc proc.params (flat_map bound_by proc.body) (binds statement.stmt)) in
-    let proc_within : ProcIsWithin (grown proc statement) = record {
+    let proc_within : ProcIsWithin v (grown proc statement) = record {
       params = old.params;
       statements = omega (arith, room, length-append proc.body (statement ∷ []));
       locals = rw local (omega (arith, bound, length-append (locals proc) (binds statement.stmt)));
-      each = all_push StatementIsWithin proc.body statement old.each within;
+      each = all_push (StatementIsWithin v) proc.body statement old.each within;
     } in
     let bodies : map Body (proc.body ++ statement ∷ []) ≡ map Body proc.body ++ Body statement ∷ [] = rw map-append refl in
     let forms_are : (forms procs ++ (Head proc.name proc.line proc.params ∷ map Body proc.body)) ++ Body statement ∷ [] ≡ forms procs ++ (Head proc.name proc.line proc.params ∷ map Body (proc.body ++ statement ∷ [])) =
     append_assoc (forms procs) (Head proc.name proc.line proc.params ∷ map Body proc.body) (Body statement ∷ []) ∙ ap (λ (rest : List Form). forms procs ++ (Head proc.name proc.line proc.params ∷ rest)) (sym bodies) in
     record {
-      lines = subst (λ (fs : List Form). AllZip IsLine fs (before ++ line ∷ [])) forms_are (zip_push IsLine (front_forms (front_in procs proc)) before (Body statement) line h.lines is);
+      lines =
+          pushed v (forms procs ++ (Head proc.name proc.line proc.params ∷ map Body proc.body)) (forms procs ++ (Head proc.name proc.line proc.params ∷ map Body (proc.body ++ statement ∷ [])))
+          before (Body statement) line h.lines is forms_are;
       procs = omega (arith, h.procs, length-append procs (proc ∷ []), length-append procs (grown proc statement ∷ []));
-      each = all_push ProcIsWithin procs (grown proc statement) (all_front ProcIsWithin procs (proc ∷ []) h.each) proc_within;
+      each = all_push (ProcIsWithin v) procs (grown proc statement) (all_front (ProcIsWithin v) procs (proc ∷ []) h.each) proc_within;
     }
   where
     not_over : (limit n : ℕ) → (limit < n → ⊥) → n ≤ limit
     not_over limit n h = grind arith
 
-end_front : (procs : List Proc) (proc : Proc) (before : List TextLine) (line : TextLine) → IsFront (front_in procs proc) before → IsLine End line → IsFront (record { procs = procs ++ proc ∷ []; begun = None }) (before ++ line ∷ [])
-end_front procs proc before line h is =
+end_front : (v : Version) (procs : List Proc) (proc : Proc) (before : List TextLine) (line : TextLine) → IsFront (front_in v procs proc) before
+    → IsLine End line → IsFront (front_of v (procs ++ proc ∷ [])) (before ++ line ∷ [])
+end_front v procs proc before line h is =
     let forms_are : (forms procs ++ (Head proc.name proc.line proc.params ∷ map Body proc.body)) ++ End ∷ [] ≡ forms (procs ++ proc ∷ []) ++ [] =
     append_assoc (forms procs) (Head proc.name proc.line proc.params ∷ map Body proc.body) (End ∷ []) ∙ sym (forms_append procs (proc ∷ [])) ∙ sym (append-nil (forms (procs ++ proc ∷ []))) in
     record {
-      lines = subst (λ (fs : List Form). AllZip IsLine fs (before ++ line ∷ [])) forms_are (zip_push IsLine (front_forms (front_in procs proc)) before End line h.lines is);
+      lines =
+          pushed v (forms procs ++ (Head proc.name proc.line proc.params ∷ map Body proc.body)) (forms (procs ++ proc ∷ []) ++ [])
+          before End line h.lines is forms_are;
       procs = rw (append-nil (procs ++ proc ∷ [])) (h.procs);
       each = rw (append-nil (procs ++ proc ∷ [])) (h.each);
     }
 
-next_front : (procs : List Proc) (begun : Option Proc) (f : Form) (before : List TextLine) (line : TextLine) → IsFront (record { procs = procs; begun = begun }) before → IsLine f line → IsShaped f → MayFollow begun f
-    → (Exceeds (record { procs = procs; begun = begun }) f → ⊥) → IsFront (front_with (record { procs = procs; begun = begun }) f) (before ++ line ∷ [])
-next_front procs None (Head name number params) before line h is shaped may few = head_front procs name number params before line h is few
-next_front procs (Some proc) (Body statement) before line h is shaped may few = body_front procs proc statement before line h is shaped few
-next_front procs (Some proc) End before line h is shaped may few = end_front procs proc before line h is
-next_front procs None (Body statement) before line h is shaped may few = absurd may
-next_front procs None End before line h is shaped may few = absurd may
-next_front procs (Some proc) (Head name number params) before line h is shaped may few = absurd may
+async_front : (v : Version) (procs : List Proc) (begun : Option Proc) (before : List TextLine) (line : TextLine)
+    → IsFront (record { of_version = v; procs = procs; begun = begun }) before → IsLine Async line
+    → IsEmpty v procs begun → IsFront (front_of version.Two []) (before ++ line ∷ [])
+async_front version.One [] None before line h is may = record { lines = zip_push IsLine [] before Async line h.lines is; procs = omega arith; each = tt }
+async_front version.One [] (Some proc) before line h is may = absurd may
+async_front version.One (p ∷ procs) begun before line h is may = absurd may
+async_front version.Two procs begun before line h is may = absurd may
+
+next_front : (v : Version) (procs : List Proc) (begun : Option Proc) (f : Form) (before : List TextLine) (line : TextLine)
+    → IsFront (record { of_version = v; procs = procs; begun = begun }) before → IsLine f line → IsShaped f
+    → MayFollow (record { of_version = v; procs = procs; begun = begun }) f
+    → (Exceeds (record { of_version = v; procs = procs; begun = begun }) f → ⊥)
+    → IsFront (front_with (record { of_version = v; procs = procs; begun = begun }) f) (before ++ line ∷ [])
+next_front v procs begun Async before line h is shaped may few = async_front v procs begun before line h is may
+next_front v procs None (Head name number params) before line h is shaped may few = head_front v procs name number params before line h is few
+next_front v procs (Some proc) (Body statement) before line h is shaped may few = body_front v procs proc statement before line h is shaped may few
+next_front v procs (Some proc) End before line h is shaped may few = end_front v procs proc before line h is
+next_front v procs None (Body statement) before line h is shaped may few = absurd may
+next_front v procs None End before line h is shaped may few = absurd may
+next_front v procs (Some proc) (Head name number params) before line h is shaped may few = absurd may
 
 ok_is_front : {a b : Front} → (let r : Result Front GrammarKind = Ok a in r ≡ Ok b) → a ≡ b
 ok_is_front e = cc
@@ -262,7 +295,7 @@ line_right front next before line h kept is = of (line_read front line kept)
       | over may ex e ↦ absurd (mixed TooMany (taken front line) (r ∙ e) is)
       | wrong may not_ex flag e ↦ absurd (mixed BadNumber (taken front line) (r ∙ e) is)
       | right may not_ex quiet e ↦ subst (λ (n : Front). IsFront n (before ++ line ∷ [])) (same_next (front_with front f) (taken front line) (r ∙ e) is)
-          (next_front front.procs front.begun f before line h (clean_line line f faulty s quiet) s.shape.shaped may not_ex)
+          (next_front front.of_version front.procs front.begun f before line h (clean_line line f faulty s quiet) s.shape.shaped may not_ex)
     ]
 
 -- ---- what was walked is right
@@ -329,22 +362,23 @@ walk_err [] front number kind before all h is = absurd cc
 walk_err (line ∷ lines) front number kind before all h is = one_err line lines front number kind before all.0 h (taken front line) refl is (λ mid front_is. walk_err lines mid number kind (before ++ line ∷ []) all.1 front_is)
 
 -- ---- a front is walked
-abbrev KeepsLimits : Proc → List Statement → Type 0
-KeepsLimits proc body = ProcIsWithin (with_body proc body)
+abbrev KeepsLimits : Version → Proc → List Statement → Type 0
+KeepsLimits v proc body = ProcIsWithin v (with_body proc body)
 
-walk_body : (body : List Statement) (procs : List Proc) (proc : Proc) (fs : List Form) (lines : List TextLine) → KeepsLimits proc (proc.body ++ body) → AllZip IsLine (map Body body ++ fs) lines
-    → (rest : List TextLine) × AllZip IsLine fs rest × (walk (front_in procs proc) lines ≡ walk (front_in procs (with_body proc (proc.body ++ body))) rest)
-walk_body [] procs proc fs lines within h = (lines, h, ap (λ (b : List Statement). walk (front_in procs (with_body proc b)) lines) (sym (append-nil proc.body)))
-walk_body (statement ∷ body) procs proc fs [] within h = absurd h
-walk_body (statement ∷ body) procs proc fs (line ∷ lines) within h =
-    let each : StatementIsWithin statement = all_at StatementIsWithin proc.body body statement within.each in
+walk_body : (v : Version) (body : List Statement) (procs : List Proc) (proc : Proc) (fs : List Form) (lines : List TextLine)
+    → KeepsLimits v proc (proc.body ++ body) → AllZip IsLine (map Body body ++ fs) lines
+    → (rest : List TextLine) × AllZip IsLine fs rest × (walk (front_in v procs proc) lines ≡ walk (front_in v procs (with_body proc (proc.body ++ body))) rest)
+walk_body v [] procs proc fs lines within h = (lines, h, ap (λ (b : List Statement). walk (front_in v procs (with_body proc b)) lines) (sym (append-nil proc.body)))
+walk_body v (statement ∷ body) procs proc fs [] within h = absurd h
+walk_body v (statement ∷ body) procs proc fs (line ∷ lines) within h =
+    let each : StatementIsWithin v statement = all_at (StatementIsWithin v) proc.body body statement within.each in
     let joined : (proc.body ++ statement ∷ []) ++ body ≡ proc.body ++ statement ∷ body = append_assoc proc.body (statement ∷ []) body in
-    let step = walk_step (front_in procs proc) (front_in procs (grown proc statement)) line lines
-    (right_taken (front_in procs proc) line (Body statement) h.0 (each.0, within_deferreds statement.stmt each.1) tt (not_ex each.1)) in
-    let later = walk_body body procs (grown proc statement) fs lines (subst (KeepsLimits proc) (sym joined) within) h.1 in
-    (later.0, later.1, step ∙ later.2 ∙ ap (λ (b : List Statement). walk (front_in procs (with_body proc b)) later.0) joined)
+    let step = walk_step (front_in v procs proc) (front_in v procs (grown proc statement)) line lines
+    (right_taken (front_in v procs proc) line (Body statement) h.0 (each.0, within_deferreds statement.stmt each.1) each.2 (not_ex each.1)) in
+    let later = walk_body v body procs (grown proc statement) fs lines (subst (KeepsLimits v proc) (sym joined) within) h.1 in
+    (later.0, later.1, step ∙ later.2 ∙ ap (λ (b : List Statement). walk (front_in v procs (with_body proc b)) later.0) joined)
   where
-    not_ex : IsWithin statement.stmt → Exceeds (front_in procs proc) (Body statement) → ⊥
+    not_ex : IsWithin statement.stmt → Exceeds (front_in v procs proc) (Body statement) → ⊥
     not_ex is (inl e) = let short = within_longest statement.stmt is in omega (arith, e, short)
     not_ex is (inr (inl e)) = omega (arith, e, within.statements, length-append proc.body (statement ∷ body))
     not_ex is (inr (inr e)) =
@@ -352,43 +386,56 @@ walk_body (statement ∷ body) procs proc fs (line ∷ lines) within h =
         ap (λ (rest : List Param). proc.params ++ rest) (flat_append bound_by proc.body (statement ∷ body)) ∙ sym (append_assoc proc.params (flat_map bound_by proc.body) (binds statement.stmt ++ flat_map bound_by body)) in
         omega (arith, e, within.locals, ap length all, length-append (locals proc) (binds statement.stmt ++ flat_map bound_by body), length-append (binds statement.stmt) (flat_map bound_by body))
 
-head_walk : (done : List Proc) (proc : Proc) (line : TextLine) (lines : List TextLine) → IsLine (Head proc.name proc.line proc.params) line → length proc.params ≤ 8 → length done + 1 ≤ 4096
-    → walk (record { procs = done; begun = None }) (line ∷ lines) ≡ walk (front_in done (bare proc)) lines
-head_walk done proc line lines is short room =
-    walk_step (record { procs = done; begun = None }) (front_in done (bare proc)) line lines (right_taken (record { procs = done; begun = None }) line (Head proc.name proc.line proc.params) is tt tt not_ex)
+head_walk : (v : Version) (done : List Proc) (proc : Proc) (line : TextLine) (lines : List TextLine) → IsLine (Head proc.name proc.line proc.params) line
+    → length proc.params ≤ 8 → length done + 1 ≤ 4096
+    → walk (front_of v done) (line ∷ lines) ≡ walk (front_in v done (bare proc)) lines
+head_walk v done proc line lines is short room =
+    walk_step (front_of v done) (front_in v done (bare proc)) line lines (right_taken (front_of v done) line (Head proc.name proc.line proc.params) is tt tt not_ex)
   where
-    not_ex : Exceeds (record { procs = done; begun = None }) (Head proc.name proc.line proc.params) → ⊥
+    not_ex : Exceeds (front_of v done) (Head proc.name proc.line proc.params) → ⊥
     not_ex (inl e) = omega (arith, e, short)
     not_ex (inr e) = omega (arith, e, room)
 
-end_walk : (done procs : List Proc) (proc : Proc) (begun : Option Proc) (rest : List TextLine) → AllZip IsLine (End ∷ (forms procs ++ begun_forms begun)) rest
-    → ((later : List TextLine) → AllZip IsLine (forms procs ++ begun_forms begun) later → walk (record { procs = done ++ proc ∷ []; begun = None }) later ≡ Ok (record { procs = (done ++ proc ∷ []) ++ procs; begun = begun }))
-    → walk (front_in done proc) rest ≡ Ok (record { procs = (done ++ proc ∷ []) ++ procs; begun = begun })
-end_walk done procs proc begun [] h later = absurd h
-end_walk done procs proc begun (line ∷ rest) h later =
-    walk_step (front_in done proc) (record { procs = done ++ proc ∷ []; begun = None }) line rest (right_taken (front_in done proc) line End h.0 tt tt (λ e. e)) ∙ later rest h.1
+end_walk : (v : Version) (done procs : List Proc) (proc : Proc) (begun : Option Proc) (rest : List TextLine)
+    → AllZip IsLine (End ∷ (forms procs ++ begun_forms begun)) rest
+    → ((later : List TextLine) → AllZip IsLine (forms procs ++ begun_forms begun) later → walk (front_of v (done ++ proc ∷ [])) later ≡ Ok (record { of_version = v; procs = (done ++ proc ∷ []) ++ procs; begun = begun }))
+    → walk (front_in v done proc) rest ≡ Ok (record { of_version = v; procs = (done ++ proc ∷ []) ++ procs; begun = begun })
+end_walk v done procs proc begun [] h later = absurd h
+end_walk v done procs proc begun (line ∷ rest) h later =
+    walk_step (front_in v done proc) (front_of v (done ++ proc ∷ [])) line rest (right_taken (front_in v done proc) line End h.0 tt tt (λ e. e)) ∙ later rest h.1
 
-walk_procs : (procs done : List Proc) (begun : Option Proc) (lines : List TextLine) → AllZip IsLine (forms procs ++ begun_forms begun) lines → length done + length (procs ++ begun_procs begun) ≤ 4096
-    → AllByRecursion ProcIsWithin (procs ++ begun_procs begun) → walk (record { procs = done; begun = None }) lines ≡ Ok (record { procs = done ++ procs; begun = begun })
-walk_procs [] done None [] h few each = ap (λ (ps : List Proc). Ok (record { procs = ps; begun = None })) (sym (append-nil done))
-walk_procs [] done None (line ∷ lines) h few each = absurd h
-walk_procs [] done (Some proc) [] h few each = absurd h
-walk_procs [] done (Some proc) (line ∷ lines) h few each =
-    let first = head_walk done proc line lines h.0 each.0.params (omega (arith, few)) in
-    let body = walk_body proc.body done (bare proc) [] lines each.0 (subst (λ (fs : List Form). AllZip IsLine fs lines) (sym (append-nil (map Body proc.body))) h.1) in
-    first ∙ body.2 ∙ ended body.0 body.1 ∙ ap (λ (ps : List Proc). Ok (record { procs = ps; begun = Some proc })) (sym (append-nil done))
+walk_procs : (v : Version) (procs done : List Proc) (begun : Option Proc) (lines : List TextLine) → AllZip IsLine (forms procs ++ begun_forms begun) lines
+    → length done + length (procs ++ begun_procs begun) ≤ 4096
+    → AllByRecursion (ProcIsWithin v) (procs ++ begun_procs begun)
+    → walk (front_of v done) lines ≡ Ok (record { of_version = v; procs = done ++ procs; begun = begun })
+walk_procs v [] done None [] h few each = ap (λ (ps : List Proc). Ok (front_of v ps)) (sym (append-nil done))
+walk_procs v [] done None (line ∷ lines) h few each = absurd h
+walk_procs v [] done (Some proc) [] h few each = absurd h
+walk_procs v [] done (Some proc) (line ∷ lines) h few each =
+    let first = head_walk v done proc line lines h.0 each.0.params (omega (arith, few)) in
+    let body = walk_body v proc.body done (bare proc) [] lines each.0 (subst (λ (fs : List Form). AllZip IsLine fs lines) (sym (append-nil (map Body proc.body))) h.1) in
+    first ∙ body.2 ∙ ended body.0 body.1 ∙ ap (λ (ps : List Proc). Ok (front_in v ps proc)) (sym (append-nil done))
   where
-    ended : (rest : List TextLine) → AllZip IsLine [] rest → walk (front_in done proc) rest ≡ Ok (front_in done proc)
+    ended : (rest : List TextLine) → AllZip IsLine [] rest → walk (front_in v done proc) rest ≡ Ok (front_in v done proc)
     ended [] h = refl
     ended (x ∷ rest) h = absurd h
-walk_procs (proc ∷ procs) done begun [] h few each = absurd h
-walk_procs (proc ∷ procs) done begun (line ∷ lines) h few each =
-    let first = head_walk done proc line lines h.0 each.0.params (omega (arith, few)) in
+walk_procs v (proc ∷ procs) done begun [] h few each = absurd h
+walk_procs v (proc ∷ procs) done begun (line ∷ lines) h few each =
+    let first = head_walk v done proc line lines h.0 each.0.params (omega (arith, few)) in
     let joined : (map Body proc.body ++ End ∷ forms procs) ++ begun_forms begun ≡ map Body proc.body ++ End ∷ (forms procs ++ begun_forms begun) = append_assoc (map Body proc.body) (End ∷ forms procs) (begun_forms begun) in
-    let body = walk_body proc.body done (bare proc) (End ∷ (forms procs ++ begun_forms begun)) lines each.0 (subst (λ (fs : List Form). AllZip IsLine fs lines) joined h.1) in
-    first ∙ body.2 ∙ end_walk done procs proc begun body.0 body.1 (λ rest rest_is. walk_procs procs (done ++ proc ∷ []) begun rest rest_is (omega (arith, few, length-append done (proc ∷ []))) each.1)
-    ∙ ap (λ (ps : List Proc). Ok (record { procs = ps; begun = begun })) (append_assoc done (proc ∷ []) procs)
+    let body = walk_body v proc.body done (bare proc) (End ∷ (forms procs ++ begun_forms begun)) lines each.0 (subst (λ (fs : List Form). AllZip IsLine fs lines) joined h.1) in
+    first ∙ body.2 ∙ end_walk v done procs proc begun body.0 body.1 (λ rest rest_is. walk_procs v procs (done ++ proc ∷ []) begun rest rest_is (omega (arith, few, length-append done (proc ∷ []))) each.1)
+    ∙ ap (λ (ps : List Proc). Ok (record { of_version = v; procs = ps; begun = begun })) (append_assoc done (proc ∷ []) procs)
 
 -- the lines of a front lead to it
+all_walked : (v : Version) (procs : List Proc) (begun : Option Proc) (before : List TextLine)
+    → IsFront (record { of_version = v; procs = procs; begun = begun }) before
+    → walk no_lines before ≡ Ok (record { of_version = v; procs = procs; begun = begun })
+all_walked version.One procs begun before h = walk_procs version.One procs [] begun before h.lines (omega (arith, h.procs)) h.each
+all_walked version.Two procs begun [] h = absurd h.lines
+all_walked version.Two procs begun (line ∷ lines) h =
+    walk_step no_lines (front_of version.Two []) line lines (right_taken no_lines line Async h.lines.0 tt tt (λ e. e))
+    ∙ walk_procs version.Two procs [] begun lines h.lines.1 (omega (arith, h.procs)) h.each
+
 pub front_walked : (front : Front) (before : List TextLine) → IsFront front before → walk no_lines before ≡ Ok front
-front_walked front before h = walk_procs front.procs [] front.begun before h.lines (omega (arith, h.procs)) h.each
+front_walked front before h = all_walked front.of_version front.procs front.begun before h

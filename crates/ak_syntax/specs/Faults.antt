@@ -5,12 +5,14 @@ use Rattle.ak_text.specs.Lines.{TextLine, text_lines, words_of, has_bad_byte}
 use Rattle.ak_script.specs.declared.script.Proc.{Proc}
 use Rattle.ak_script.specs.declared.statement.Atom.TheVariants.{Literal}
 use Rattle.ak_syntax.specs.declared.line_form.Form.{Form}
-use Rattle.ak_syntax.specs.declared.line_form.Form.TheVariants.{Head, Body, End}
+use Rattle.ak_syntax.specs.declared.line_form.Form.TheVariants.{Async, Head, Body, End}
 use Rattle.ak_syntax.specs.declared.refusal.GrammarKind.{GrammarKind}
 use Rattle.ak_syntax.specs.declared.refusal.GrammarKind.TheVariants.{BadLine, TooLong, TooMany, BadNumber}
+use Rattle.ak_syntax.specs.declared.version.Version.{Version}
+use Rattle.ak_syntax.specs.declared.version.Version.TheVariants as version
 use Rattle.ak_syntax.specs.Names.{is_number_word}
-use Rattle.ak_syntax.specs.Table.{Place, Valued, Counted, Stands, binds, HasDeferreds, longest_list}
-use Rattle.ak_syntax.specs.Grammar.{places, HasNumber, IsLine, forms, counts, MayHavePrefix, ProcIsWithin, locals}
+use Rattle.ak_syntax.specs.Table.{Place, Valued, Counted, Stands, binds, HasDeferreds, longest_list, is_in}
+use Rattle.ak_syntax.specs.Grammar.{places, HasNumber, IsLine, version_forms, forms, counts, MayHavePrefix, ProcIsWithin, locals}
 
 -- the number of a kind
 abbrev pub kind_number : GrammarKind → ℕ
@@ -59,8 +61,9 @@ abbrev pub HasFaultyNumber : Form → TextLine → Type 0
 HasFaultyNumber form line = SomeZip IsFaulty (places form) (words_of line.text)
 
 -- ---- the lines before
--- the first lines of a script: whole procedures, and those of one whose `end` has not come
+-- the first lines of a script: that of its version, whole procedures, and those of one whose `end` has not come
 pub record Front : Type 0 where
+  pub of_version : Version
   pub procs : List Proc
   pub begun : Option Proc
 
@@ -69,7 +72,7 @@ begun_forms None = []
 begun_forms (Some proc) = Head proc.name proc.line proc.params ∷ map Body proc.body
 
 abbrev pub front_forms : Front → List Form
-front_forms front = forms front.procs ++ begun_forms front.begun
+front_forms front = version_forms front.of_version ++ (forms front.procs ++ begun_forms front.begun)
 
 abbrev pub begun_procs : Option Proc → List Proc
 begun_procs None = []
@@ -83,15 +86,25 @@ all_procs front = front.procs ++ begun_procs front.begun
 pub record IsFront (front : Front) (before : List TextLine) : Type 0 where
   pub lines : AllZip IsLine (front_forms front) before
   pub procs : length (all_procs front) ≤ 4096
-  pub each : AllByRecursion ProcIsWithin (all_procs front)
+  pub each : AllByRecursion (ProcIsWithin front.of_version) (all_procs front)
 
 -- ---- the fault of a line behind right ones
--- `proc` comes outside of a procedure, a statement and `end` inside
-abbrev pub MayFollow : Option Proc → Form → Type 0
-MayFollow None (Head name line params) = Unit {0}
-MayFollow (Some proc) (Body statement) = Unit {0}
-MayFollow (Some proc) End = Unit {0}
-MayFollow _ _ = ⊥
+-- no line stands before
+abbrev pub IsEmpty : Version → List Proc → Option Proc → Type 0
+IsEmpty version.One [] None = Unit {0}
+IsEmpty v procs begun = ⊥
+
+-- `proc` comes outside of a procedure, a statement that the version has and `end` inside
+abbrev pub MayStand : Version → Option Proc → Form → Type 0
+MayStand v None (Head name line params) = Unit {0}
+MayStand v (Some proc) (Body statement) = is_in v statement.stmt ≡ true
+MayStand v (Some proc) End = Unit {0}
+MayStand v begun form = ⊥
+
+-- the line of the version comes first
+abbrev pub MayFollow : Front → Form → Type 0
+MayFollow front Async = IsEmpty front.of_version front.procs front.begun
+MayFollow front form = MayStand front.of_version front.begun form
 
 -- a list of a statement, or what the procedure has with it, is over its limit
 abbrev pub StatementExceeds : Proc → Form → Type 0
@@ -105,9 +118,9 @@ Exceeds front form = IsSomeAnd front.begun (λ proc. StatementExceeds proc form)
 
 -- the least kind of the line's faults
 abbrev pub LineFault : Front → TextLine → GrammarKind → Type 0
-LineFault front line BadLine = (form : Form) → HasShape form line → MayFollow front.begun form → ⊥
-LineFault front line TooMany = (form : Form) × HasShape form line × MayFollow front.begun form × Exceeds front form
-LineFault front line BadNumber = (form : Form) × HasShape form line × MayFollow front.begun form × (Exceeds front form → ⊥) × HasFaultyNumber form line
+LineFault front line BadLine = (form : Form) → HasShape form line → MayFollow front form → ⊥
+LineFault front line TooMany = (form : Form) × HasShape form line × MayFollow front form × Exceeds front form
+LineFault front line BadNumber = (form : Form) × HasShape form line × MayFollow front form × (Exceeds front form → ⊥) × HasFaultyNumber form line
 LineFault front line TooLong = ⊥
 
 -- the first line with a fault comes behind right ones

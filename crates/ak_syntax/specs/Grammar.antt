@@ -1,5 +1,6 @@
--- The grammar of scripts: a text is its lines, a line its words, and the words are those of a form.
-use Rattle.std.specs.Prelude.{◌≡◌, ℕ, ◌≤◌, Bool, false, not, ◌||◌, ◌==◌, Option, Some, None, List, [], ◌∷◌, ◌++◌, map, filter, length, codes}
+-- The grammar of scripts: a text is its lines, a line its words, the lines have a version, and the words are those of a form
+-- that the version has.
+use Rattle.std.specs.Prelude.{◌≡◌, ℕ, ◌≤◌, Bool, true, false, not, ◌||◌, ◌==◌, Option, Some, None, List, [], ◌∷◌, ◌++◌, map, filter, length, codes}
 use Rattle.std.specs.List.{AllZip, AllByRecursion, flat_map}
 use Rattle.ak_text.specs.Lines.{TextLine, text_lines, words_of, has_bad_byte}
 use Rattle.ak_script.specs.declared.script.Param.{Param}
@@ -8,9 +9,11 @@ use Rattle.ak_script.specs.declared.script.Prefix.TheVariants.{If, Unless}
 use Rattle.ak_script.specs.declared.script.Statement.{Statement}
 use Rattle.ak_script.specs.declared.script.Proc.{Proc}
 use Rattle.ak_syntax.specs.declared.line_form.Form.{Form}
-use Rattle.ak_syntax.specs.declared.line_form.Form.TheVariants.{Head, Body, End}
+use Rattle.ak_syntax.specs.declared.line_form.Form.TheVariants.{Async, Head, Body, End}
 use Rattle.ak_script.specs.declared.statement.Stmt.{Stmt}
-use Rattle.ak_syntax.specs.Table.{Place, Exactly, Named, Valued, Typed, Stands, row, binds, IsWithin}
+use Rattle.ak_syntax.specs.declared.version.Version.{Version}
+use Rattle.ak_syntax.specs.declared.version.Version.TheVariants as version
+use Rattle.ak_syntax.specs.Table.{Place, Exactly, Named, Valued, Typed, Stands, row, binds, IsWithin, is_in}
 
 -- the words of a prefix
 abbrev pub prefix_places : Option Prefix → List Place
@@ -20,12 +23,14 @@ prefix_places (Some (Unless a)) = Exactly (codes "unless") ∷ Valued a ∷ []
 
 -- the words of a line
 abbrev pub places : Form → List Place
+places Async = Exactly (codes "async") ∷ Exactly (codes "2") ∷ []
 places (Head name line params) = Exactly (codes "proc") ∷ Named name ∷ map Typed params
 places (Body statement) = prefix_places statement.prefix ++ row statement.stmt
 places End = Exactly (codes "end") ∷ []
 
 -- the number of the line is the one that the form has
 abbrev pub HasNumber : Form → ℕ → Type 0
+HasNumber Async number = Unit {0}
 HasNumber (Head name line params) number = line ≡ number
 HasNumber (Body statement) number = statement.line ≡ number
 HasNumber End number = Unit {0}
@@ -36,7 +41,12 @@ pub record IsLine (form : Form) (line : TextLine) : Type 0 where
   pub number : HasNumber form line.number
   pub words : AllZip Stands (places form) (words_of line.text)
 
--- the lines of a script: those of each procedure are its first, its statements and `end`
+-- the line in front of a script, by its version
+abbrev pub version_forms : Version → List Form
+version_forms version.One = []
+version_forms version.Two = Async ∷ []
+
+-- the lines of procedures: those of each are its first, its statements and `end`
 abbrev pub forms : List Proc → List Form
 forms [] = []
 forms (proc ∷ procs) = Head proc.name proc.line proc.params ∷ (map Body proc.body ++ End ∷ forms procs)
@@ -50,30 +60,26 @@ abbrev pub MayHavePrefix : Option Prefix → Stmt → Type 0
 MayHavePrefix None stmt = Unit {0}
 MayHavePrefix (Some prefix) stmt = binds stmt ≡ []
 
--- a statement with its prefix keeps the limits
-abbrev pub StatementIsWithin : Statement → Type 0
-StatementIsWithin statement = MayHavePrefix statement.prefix statement.stmt × IsWithin statement.stmt
+-- a statement with its prefix keeps the limits, and the version has it
+abbrev pub StatementIsWithin : Version → Statement → Type 0
+StatementIsWithin v statement =
+    MayHavePrefix statement.prefix statement.stmt × IsWithin statement.stmt × (is_in v statement.stmt ≡ true)
 
 -- the parameters of a procedure and all that its statements bind
 abbrev pub locals : Proc → List Param
 locals proc = proc.params ++ flat_map (λ statement. binds statement.stmt) proc.body
 
--- a procedure keeps the limits
-pub record ProcIsWithin (proc : Proc) : Type 0 where
+-- a procedure keeps the limits, in a version
+pub record ProcIsWithin (v : Version) (proc : Proc) : Type 0 where
   pub params : length proc.params ≤ 8
   pub statements : length proc.body ≤ 64
   pub locals : length (locals proc) ≤ 64
-  pub each : AllByRecursion StatementIsWithin proc.body
+  pub each : AllByRecursion (StatementIsWithin v) proc.body
 
--- the bytes are the script
+-- the bytes are the script: `async 2` stands before its procedures where it is of version 2
 pub record Reads (bytes : List ℕ) (script : List Proc) : Type 0 where
   pub size : length bytes ≤ 1048576
-  pub lines : AllZip IsLine (forms script) (filter counts (text_lines bytes))
+  pub of_version : Version
+  pub lines : AllZip IsLine (version_forms of_version ++ forms script) (filter counts (text_lines bytes))
   pub procs : length script ≤ 4096
-  pub each : AllByRecursion ProcIsWithin script
-
--- a line keeps the limits
-abbrev pub FormIsWithin : Form → Type 0
-FormIsWithin (Head name line params) = length params ≤ 8
-FormIsWithin (Body statement) = StatementIsWithin statement
-FormIsWithin End = Unit {0}
+  pub each : AllByRecursion (ProcIsWithin of_version) script

@@ -11,22 +11,27 @@ use Rattle.ak_script.specs.declared.statement.Stmt.{Stmt}
 use Rattle.ak_syntax.specs.declared.cursor.Cursor.{Cursor}
 use Rattle.ak_syntax.specs.declared.cursor.Until.TheVariants.{LineEnd}
 use Rattle.ak_syntax.specs.declared.line_form.Form.{Form}
-use Rattle.ak_syntax.specs.declared.line_form.Form.TheVariants.{Head, Body, End}
+use Rattle.ak_syntax.specs.declared.line_form.Form.TheVariants.{Async, Head, Body, End}
 use Rattle.ak_syntax.specs.declared.refusal.Fault.{Fault}
 use Rattle.ak_syntax.specs.declared.refusal.Fault.TheVariants.{Grammar, NoMemory}
 use Rattle.ak_syntax.specs.declared.refusal.GrammarKind.{GrammarKind}
 use Rattle.ak_syntax.specs.declared.refusal.GrammarKind.TheVariants.{BadLine, TooMany, BadNumber}
 use Rattle.ak_syntax.specs.declared.refusal.ParseRefused.{ParseRefused}
 use Rattle.ak_syntax.specs.declared.refusal.ParseRefused.TheVariants as parse
-use Rattle.ak_syntax.specs.Table.{binds, longest_list}
+use Rattle.ak_syntax.specs.declared.version.Version.{Version}
+use Rattle.ak_syntax.specs.declared.version.Version.TheVariants as version
+use Rattle.ak_syntax.specs.Table.{binds, longest_list, is_in}
 use Rattle.ak_syntax.specs.Grammar.{locals}
 use Rattle.ak_syntax.specs.Faults.{Front, kind_number}
 use Rattle.ak_syntax.specs.Rows.{statement_at}
-use Rattle.ak_syntax.specs.Words.{Bad, bad, ◌>>=◌, Part, both, mapped, end_at, word_at, name_at, atom_at, params_at, listed_at}
+use Rattle.ak_syntax.specs.Words.{Bad, bad, ◌>>=◌, Part, both, mapped, end_at, word_at, exactly_at, name_at, atom_at, params_at, listed_at}
 
 -- ---- one line
 unfoldable pub head_at : ℕ → Part Form
 head_at number = mapped (λ t. Head t.0 number t.1) (both name_at params_at)
+
+unfoldable pub async_at : Part Form
+async_at = mapped (λ t. Async) (both (exactly_at (codes "2")) end_at)
 
 unfoldable pub end_form_at : Part Form
 end_form_at = mapped (λ t. End) end_at
@@ -46,7 +51,13 @@ plain_at number word c = statement_at word c >>= λ s. Ok (Body (record { line =
 
 -- the form that begins with the word
 unfoldable pub form_from : ℕ → List ℕ → Part Form
-form_from number word = if bytes_eq word (codes "proc") then head_at number else (if bytes_eq word (codes "end") then end_form_at else (if bytes_eq word (codes "if") then if_at number else (if bytes_eq word (codes "unless") then unless_at number else plain_at number word)))
+form_from number word =
+    if bytes_eq word (codes "proc") then head_at number
+    else if bytes_eq word (codes "end") then end_form_at
+    else if bytes_eq word (codes "if") then if_at number
+    else if bytes_eq word (codes "unless") then unless_at number
+    else if bytes_eq word (codes "async") then async_at
+    else plain_at number word
 
 -- ---- a line behind others
 abbrev pub head_added : Front → Proc → Result Front GrammarKind
@@ -63,7 +74,12 @@ abbrev pub statement_added : Front → Proc → Statement → Bool → Result Fr
 statement_added front proc statement faulty = if statement_exceeds proc statement then Err TooMany else (if faulty then Err BadNumber else Ok (record front { begun = Some (grown proc statement) }))
 
 abbrev pub end_added : Front → Proc → Result Front GrammarKind
-end_added front proc = Ok (record { procs = front.procs ++ proc ∷ []; begun = None })
+end_added front proc = Ok (record front { procs = front.procs ++ proc ∷ []; begun = None })
+
+-- the line of the version comes first
+abbrev pub async_added : Version → List Proc → Option Proc → Result Front GrammarKind
+async_added version.One [] None = Ok (record { of_version = version.Two; procs = []; begun = None })
+async_added v procs begun = Err BadLine
 
 -- `proc` comes outside of a procedure, a statement and `end` inside
 abbrev pub begun_head : Option Proc → Front → Proc → Result Front GrammarKind
@@ -72,13 +88,14 @@ begun_head (Some begun) front proc = Err BadLine
 
 abbrev pub begun_statement : Option Proc → Front → Statement → Bool → Result Front GrammarKind
 begun_statement None front statement faulty = Err BadLine
-begun_statement (Some proc) front statement faulty = statement_added front proc statement faulty
+begun_statement (Some proc) front statement faulty = if is_in front.of_version statement.stmt then statement_added front proc statement faulty else Err BadLine
 
 abbrev pub begun_end : Option Proc → Front → Result Front GrammarKind
 begun_end None front = Err BadLine
 begun_end (Some proc) front = end_added front proc
 
 abbrev pub form_added : Front → Form → Bool → Result Front GrammarKind
+form_added front Async faulty = async_added front.of_version front.procs front.begun
 form_added front (Head name line params) faulty = begun_head front.begun front (record { name = name; line = line; params = params; body = [] })
 form_added front (Body statement) faulty = begun_statement front.begun front statement faulty
 form_added front End faulty = begun_end front.begun front
@@ -139,7 +156,7 @@ scanned front last [] = closed_by last front.procs front.begun
 scanned front last (line ∷ lines) = then_lines line.number (taken front line) (λ next. scanned next line.number lines)
 
 abbrev pub no_lines : Front
-no_lines = record { procs = []; begun = None }
+no_lines = record { of_version = version.One; procs = []; begun = None }
 
 -- the refusal of a line
 abbrev pub refused_of : ℕ → Fault → ParseRefused

@@ -3,6 +3,7 @@ use Rattle.std.specs.Prelude.{ℕ, Option, Some, None, Err, List}
 use Rattle.ak_script.specs.declared.statement.Atom.{Atom}
 use Rattle.ak_script.specs.declared.statement.Stmt.{Stmt}
 use Rattle.ak_script.specs.declared.statement.Stmt.TheVariants.{Set, Print, Ivar, Fill, Offer, Upon, Bind, All, Any, Choose, Sched, Low, Yield, Never, After, Event, Abort, Tick, Monitor, Within, Detach, OnError, NextError, Raise, Send, Try, Throttle, Enqueue, ThrottleDone, Pipe, Write, Put, Read, Close, CloseRead, Flushed, Work, Helper, HelperWork, HelperDone, Stop, Ret}
+use Rattle.ak_script.specs.declared.statement.GuardMode.{GuardMode}
 use Rattle.ak_script.specs.declared.statement.WorkWord.{WorkWord}
 use Rattle.ak_syntax.specs.declared.cursor.Until.TheVariants.{LineEnd, Then, Else}
 use Rattle.ak_syntax.specs.declared.keyword.ValueWord.{ValueWord}
@@ -24,7 +25,7 @@ use Rattle.ak_syntax.specs.declared.keyword.ClosingWord.TheVariants as closing
 use Rattle.ak_syntax.specs.declared.keyword.PoolWord.{PoolWord}
 use Rattle.ak_syntax.specs.declared.keyword.PoolWord.TheVariants as pool
 use Rattle.ak_syntax.specs.Keywords.{value_named, deferred_named, group_named, job_named, monitor_named, throttle_named, pipe_named, closing_named, pool_named}
-use Rattle.ak_syntax.specs.Words.{bad, Part, both, mapped, end_at, name_at, atom_at, count_at, operator_at, work_at, mode_at, args_at, some_names_at, some_choices_at}
+use Rattle.ak_syntax.specs.Words.{bad, Part, both, mapped, end_at, name_at, atom_at, count_at, operator_at, work_at, mode_at, args_at, guard_args_at, some_names_at, some_choices_at}
 
 -- ---- the last words of a row, with the end of the line
 unfoldable pub one_name_at : Part (List ℕ)
@@ -50,6 +51,10 @@ call_at = both name_at (args_at LineEnd)
 unfoldable pub two_calls_at : Part (List ℕ × List Atom × List ℕ × List Atom)
 two_calls_at = mapped (λ t. (t.0, t.1.0, t.1.1.0, t.1.1.1)) (both name_at (both (args_at Else) (both name_at (args_at LineEnd))))
 
+-- the same, and whether `rest raise` ends the line
+unfoldable pub guarded_calls_at : Part (List ℕ × List Atom × List ℕ × List Atom × GuardMode)
+guarded_calls_at = mapped (λ t. (t.0, t.1.0, t.1.1.0, t.1.1.1.0, t.1.1.1.1)) (both name_at (both (args_at Else) (both name_at guard_args_at)))
+
 -- ---- the rows
 unfoldable pub value_row : ValueWord → Part Stmt
 value_row value.Set = mapped (λ t. Set t.0 t.1.0 t.1.1.0 t.1.1.1.0) (both name_at (both atom_at (both operator_at (both atom_at end_at))))
@@ -71,7 +76,7 @@ unfoldable pub group_row : GroupWord → Part Stmt
 group_row group.All = mapped (λ t. All t.0 t.1.0 t.1.1.0 t.1.1.1) (both name_at (both (some_names_at Then) call_at))
 group_row group.Any = mapped (λ t. Any t.0 t.1) (both name_at (some_names_at LineEnd))
 group_row group.Choose = mapped (λ t. Choose t.0 t.1.0 t.1.1) (both name_at (both some_choices_at (args_at LineEnd)))
-group_row group.Try = mapped (λ t. Try t.0 t.1.0 t.1.1 t.1.2 t.1.3) (both name_at two_calls_at)
+group_row group.Try = mapped (λ t. Try t.0 t.1.0 t.1.1 t.1.2 t.1.3 t.1.4) (both name_at guarded_calls_at)
 
 unfoldable pub job_row : JobWord → Part Stmt
 job_row job.Sched = mapped (λ t. Sched t.0 t.1) call_at

@@ -1,5 +1,5 @@
 -- The table of statements: the words of each, the names that it binds, and the limits of its lists and numbers.
-use Rattle.std.specs.Prelude.{◌≡◌, ℕ, ◌≤◌, max, true, List, [], ◌∷◌, ◌++◌, map, length, pos, codes, FitsSigned, if◌then◌else◌}
+use Rattle.std.specs.Prelude.{◌≡◌, ℕ, ◌≤◌, max, Bool, true, false, List, [], ◌∷◌, ◌++◌, map, length, pos, codes, FitsSigned, if◌then◌else◌}
 use Rattle.std.specs.Int.{w64}
 use Rattle.std.specs.List.{flat_map}
 use Rattle.ak_text.specs.Numbers.{Writes}
@@ -9,8 +9,12 @@ use Rattle.ak_script.specs.declared.script.Param.{Param}
 use Rattle.ak_script.specs.declared.statement.Atom.{Atom}
 use Rattle.ak_script.specs.declared.statement.Atom.TheVariants.{Literal, Local}
 use Rattle.ak_script.specs.declared.statement.Choice.{Choice}
+use Rattle.ak_script.specs.declared.statement.GuardMode.{GuardMode}
+use Rattle.ak_script.specs.declared.statement.GuardMode.TheVariants as guard
 use Rattle.ak_script.specs.declared.statement.Stmt.{Stmt}
 use Rattle.ak_script.specs.declared.statement.Stmt.TheVariants.{Set, Print, Ivar, Fill, Offer, Upon, Bind, All, Any, Choose, Sched, Low, Yield, Never, After, Event, Abort, Tick, Monitor, Within, Detach, OnError, NextError, Raise, Send, Try, Throttle, Enqueue, ThrottleDone, Pipe, Write, Put, Read, Close, CloseRead, Flushed, Work, Helper, HelperWork, HelperDone, Stop, Ret}
+use Rattle.ak_syntax.specs.declared.version.Version.{Version}
+use Rattle.ak_syntax.specs.declared.version.Version.TheVariants as version
 use Rattle.ak_syntax.specs.Names.{is_name, kind_word, operator_word, work_word}
 
 -- what one word of a line stands for
@@ -39,6 +43,11 @@ Stands (Typed param) word = (word ≡ param.name ++ 58 ∷ kind_word param.kind)
 abbrev pub choice_places : Choice → List Place
 choice_places choice = Named choice.d ∷ Named choice.proc ∷ []
 
+-- the last words of a `try`, by what becomes of its later errors
+abbrev pub mode_places : GuardMode → List Place
+mode_places guard.Drop = []
+mode_places guard.Raise = Exactly (codes "rest") ∷ Exactly (codes "raise") ∷ []
+
 -- the words of a statement
 abbrev pub row : Stmt → List Place
 row (Set x a op b) = Exactly (codes "set") ∷ Named x ∷ Valued a ∷ Exactly (operator_word op) ∷ Valued b ∷ []
@@ -66,7 +75,9 @@ row (OnError m proc args) = Exactly (codes "onerror") ∷ Named m ∷ Named proc
 row (NextError r m) = Exactly (codes "nexterr") ∷ Named r ∷ Named m ∷ []
 row (Raise a) = Exactly (codes "raise") ∷ Valued a ∷ []
 row (Send m a) = Exactly (codes "send") ∷ Named m ∷ Valued a ∷ []
-row (Try r proc args catch catch_args) = Exactly (codes "try") ∷ Named r ∷ Named proc ∷ (map Valued args ++ Exactly (codes "else") ∷ Named catch ∷ map Valued catch_args)
+row (Try r proc args catch catch_args mode) =
+    Exactly (codes "try") ∷ Named r ∷ Named proc
+    ∷ (map Valued args ++ Exactly (codes "else") ∷ Named catch ∷ (map Valued catch_args ++ mode_places mode))
 row (Throttle t k stop) = Exactly (codes "throttle") ∷ Named t ∷ Counted 1 k ∷ Exactly (if stop then codes "stop" else codes "go") ∷ []
 row (Enqueue r t proc args) = Exactly (codes "enqueue") ∷ Named r ∷ Named t ∷ Named proc ∷ map Valued args
 row (ThrottleDone r t) = Exactly (codes "tdone") ∷ Named r ∷ Named t ∷ []
@@ -102,7 +113,7 @@ binds (After r n) = bound r of_kind.Def ∷ []
 binds (Event e r n) = bound e of_kind.Event ∷ bound r of_kind.Def ∷ []
 binds (Monitor m) = bound m of_kind.Mon ∷ []
 binds (NextError r m) = bound r of_kind.Def ∷ []
-binds (Try r proc args catch catch_args) = bound r of_kind.Def ∷ []
+binds (Try r proc args catch catch_args mode) = bound r of_kind.Def ∷ []
 binds (Throttle t k stop) = bound t of_kind.Thr ∷ []
 binds (Enqueue r t proc args) = bound r of_kind.Def ∷ []
 binds (ThrottleDone r t) = bound r of_kind.Def ∷ []
@@ -130,7 +141,7 @@ IsWithin (Sched proc args) = length args ≤ 8
 IsWithin (Low proc args) = length args ≤ 8
 IsWithin (Within m proc args) = length args ≤ 8
 IsWithin (OnError m proc args) = length args ≤ 8
-IsWithin (Try r proc args catch catch_args) = (length args ≤ 8) × (length catch_args ≤ 8)
+IsWithin (Try r proc args catch catch_args mode) = (length args ≤ 8) × (length catch_args ≤ 8)
 IsWithin (Throttle t k stop) = (1 ≤ k) × (k ≤ 1000000)
 IsWithin (Enqueue r t proc args) = length args ≤ 8
 IsWithin (Pipe p b) = b ≤ 1000000
@@ -155,7 +166,17 @@ longest_list (Sched proc args) = length args
 longest_list (Low proc args) = length args
 longest_list (Within m proc args) = length args
 longest_list (OnError m proc args) = length args
-longest_list (Try r proc args catch catch_args) = max (length args) (length catch_args)
+longest_list (Try r proc args catch catch_args mode) = max (length args) (length catch_args)
 longest_list (Enqueue r t proc args) = length args
 longest_list (Read r p proc args eof eof_args) = max (length args) (length eof_args)
 longest_list _ = 0
+
+-- only version 2 has a `try` whose later errors go up
+abbrev pub has_mode : Version → GuardMode → Bool
+has_mode version.One guard.Raise = false
+has_mode v mode = true
+
+-- whether a version of the language has a statement
+abbrev pub is_in : Version → Stmt → Bool
+is_in v (Try r proc args catch catch_args mode) = has_mode v mode
+is_in v _ = true

@@ -9,6 +9,8 @@ use Rattle.ak_script.specs.declared.script.Param.{Param}
 use Rattle.ak_script.specs.declared.statement.Atom.{Atom}
 use Rattle.ak_script.specs.declared.statement.Atom.TheVariants.{Literal, Local}
 use Rattle.ak_script.specs.declared.statement.Choice.{Choice}
+use Rattle.ak_script.specs.declared.statement.GuardMode.{GuardMode}
+use Rattle.ak_script.specs.declared.statement.GuardMode.TheVariants as guard
 use Rattle.ak_script.specs.declared.statement.Operator.{Operator}
 use Rattle.ak_script.specs.declared.statement.WorkWord.{WorkWord}
 use Rattle.ak_syntax.specs.declared.cursor.Cursor.{Cursor}
@@ -70,6 +72,13 @@ end_at c = end_from c.words c.faulty
 
 abbrev pub name_found : List ℕ → Result (List ℕ) Bad
 name_found word = if is_name word then Ok word else Err bad
+
+-- this very word
+abbrev pub exactly_found : List ℕ → List ℕ → Result (Unit {0}) Bad
+exactly_found bytes word = if bytes_eq word bytes then Ok tt else Err bad
+
+unfoldable pub exactly_at : List ℕ → Part (Unit {0})
+exactly_at bytes c = word_at c >>= λ w. exactly_found bytes w.0 >>= λ u. Ok (u, w.1)
 
 unfoldable pub name_at : Part (List ℕ)
 name_at c = word_at c >>= λ w. name_found w.0 >>= λ n. Ok (n, w.1)
@@ -187,6 +196,20 @@ names_at until = list_at (plain name_found) until
 
 abbrev pub params_at : Part (List Param)
 params_at = list_at (plain param_found) LineEnd
+
+-- the end of a line behind `rest`
+unfoldable pub raise_at : Part (Unit {0})
+raise_at = mapped (λ t. tt) (both (exactly_at (codes "raise")) end_at)
+
+-- arguments to the end of the line, or to `rest raise` there
+unfoldable pub guard_args_from : List (List ℕ) → Bool → Result ((List Atom × GuardMode) × Cursor) Bad
+guard_args_from [] faulty = Ok (([], guard.Drop), record { words = []; faulty = faulty })
+guard_args_from (word ∷ words) faulty =
+    if bytes_eq word (codes "rest") then (raise_at (record { words = words; faulty = faulty }) >>= λ u. Ok (([], guard.Raise), u.1))
+    else (atom_found word >>= λ x. guard_args_from words (x.1 || faulty) >>= λ rest. Ok ((x.0 ∷ rest.0.0, rest.0.1), rest.1))
+
+abbrev pub guard_args_at : Part (List Atom × GuardMode)
+guard_args_at c = guard_args_from c.words c.faulty
 
 -- not the empty list
 abbrev pub some_of : {T : Type 0} → List T → Result (List T) Bad

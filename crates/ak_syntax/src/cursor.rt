@@ -3,7 +3,7 @@
 ghost use Rattle.std.specs.Prelude.{◌≡◌, false};
 ghost use Rattle.std.specs.Option.{option_map};
 ghost use Rattle.ak_text.specs.Lines.{words_of};
-ghost use Rattle.ak_syntax.specs.Words.{Leaves, word_at, end_at, name_at, atom_at, count_at, operator_at, work_at, mode_at, listed_at, ends_list, is_line_end, marked};
+ghost use Rattle.ak_syntax.specs.Words.{Leaves, word_at, exactly_at, end_at, name_at, atom_at, count_at, operator_at, work_at, mode_at, listed_at, ends_list, is_line_end, marked};
 
 use crate::refusal::{Fault, GrammarKind};
 use crate::word::{atom, count, mode_named, name, operator_named, work_named};
@@ -73,6 +73,17 @@ impl<'a> Cursor<'a> {
             Some(word) => Ok(word),
             None => Err(Fault::Grammar(GrammarKind::BadLine)),
         }
+    }
+
+    /// This very word.
+    #[tactic(auto, unfolding(crate::specs::Words::exactly_at))]
+    pub fn exactly(&mut self, wanted: &[u8]) -> Result<(), Fault>
+        ensures { Leaves (λ u. tt) result self.new (exactly_at wanted.now self.old) }
+    {
+        if self.word()? != wanted {
+            return Err(Fault::Grammar(GrammarKind::BadLine));
+        }
+        Ok(())
     }
 
     /// The end of the line.

@@ -2,7 +2,7 @@
 
 ghost use Rattle.std.specs.Prelude.{◌≡◌};
 ghost use Rattle.ak_syntax.specs.Words.{Leaves};
-ghost use Rattle.ak_syntax.specs.Lines.{form_from, head_at, end_form_at, if_at, unless_at, conditional_at, plain_at};
+ghost use Rattle.ak_syntax.specs.Lines.{form_from, head_at, async_at, end_form_at, if_at, unless_at, conditional_at, plain_at};
 
 use crate::cursor::Cursor;
 use crate::limit::bound_count;
@@ -29,6 +29,9 @@ pub fn form(alloc: Global, number: u32, first: &[u8], words: &mut Cursor) -> Res
     if first == b"unless".as_slice() {
         return unless_statement(alloc, number, words);
     }
+    if first == b"async".as_slice() {
+        return version(words);
+    }
     plain(alloc, number, first, words)
 }
 
@@ -44,6 +47,16 @@ fn head(alloc: Global, number: u32, words: &mut Cursor) -> Result<Form, Fault>
         line: number,
         params,
     })
+}
+
+/// The line of version 2: `async 2`.
+#[tactic(auto, unfolding(crate::specs::Lines::async_at))]
+fn version(words: &mut Cursor) -> Result<Form, Fault>
+    ensures { Leaves (λ f. f) result words.new (async_at words.old) }
+{
+    words.exactly(b"2".as_slice())?;
+    words.end()?;
+    Ok(Form::Async)
 }
 
 /// The last line of a procedure: `end`.

@@ -13,4 +13,5 @@ mod reader;
 pub mod refusal;
 mod rows;
 mod shape;
+pub mod version;
 mod word;

@@ -1,15 +1,16 @@
 //! Lists in a line.
 
-ghost use Rattle.std.specs.Prelude.{◌≡◌, [], ◌∷◌, length};
+ghost use Rattle.std.specs.Prelude.{◌≡◌, [], ◌∷◌, length, codes};
+ghost use Rattle.std.specs.Str.{bytes_eq};
 ghost use Rattle.ak_syntax.specs.declared.cursor.Until.TheVariants as until;
-ghost use Rattle.ak_syntax.specs.Words.{Leaves, args_at, names_at, params_at, some_names_at, choices_at, some_choices_at};
+ghost use Rattle.ak_syntax.specs.Words.{Leaves, args_at, raise_at, guard_args_at, names_at, params_at, some_names_at, choices_at, some_choices_at};
 
 use crate::cursor::{Cursor, Until};
 use crate::refusal::{Fault, GrammarKind};
 use crate::word::{atom, name, param};
 use ak_base::list::Items;
 use ak_script::script::Param;
-use ak_script::statement::{Args, Choice, Choices, Names};
+use ak_script::statement::{Args, Choice, Choices, GuardMode, Names};
 use std::alloc::Global;
 
 impl<'a> Cursor<'a> {
@@ -24,6 +25,32 @@ impl<'a> Cursor<'a> {
             args.push(arg)?;
         }
         Ok(args)
+    }
+
+    /// Numbers and names of locals to the end of the line, and whether it ends with `rest raise`.
+    pub fn guard_args(&mut self, alloc: Global) -> Result<(Args, GuardMode), Fault>
+        ensures { Leaves (λ x. x) result self.new (guard_args_at self.old) }
+    {
+        let mut args = Items::make(alloc);
+        while let Some(word) = self.listed(Until::LineEnd)? {
+            if is_rest(word) {
+                self.raise()?;
+                return Ok((args, GuardMode::Raise));
+            }
+            let (arg, faulty) = atom(alloc, word)?;
+            self.mark(faulty);
+            args.push(arg)?;
+        }
+        Ok((args, GuardMode::Drop))
+    }
+
+    /// The end of a line behind `rest`.
+    #[tactic(auto, unfolding(crate::specs::Words::raise_at))]
+    fn raise(&mut self) -> Result<(), Fault>
+        ensures { Leaves (λ u. tt) result self.new (raise_at self.old) }
+    {
+        self.exactly(b"raise".as_slice())?;
+        self.end()
     }
 
     /// Names.
@@ -82,4 +109,11 @@ impl<'a> Cursor<'a> {
         }
         Ok(choices)
     }
+}
+
+/// Whether the word begins the end of a line that lets later errors go up.
+fn is_rest(word: &[u8]) -> bool
+    ensures { result ≡ bytes_eq word.now (codes "rest") }
+{
+    word == b"rest".as_slice()
 }

@@ -2,7 +2,7 @@
 
 ghost use Rattle.std.specs.Prelude.{◌≡◌, ◌+◌, length, [], IfOk, is_some};
 ghost use Rattle.std.specs.Option.{option_map};
-ghost use Rattle.ak_syntax.specs.Lines.{Becomes, HasRoom, grown, added, taken, no_lines, begun_head, begun_statement, begun_end, statement_exceeds};
+ghost use Rattle.ak_syntax.specs.Lines.{Becomes, HasRoom, grown, added, taken, no_lines, async_added, begun_head, begun_statement, begun_end, statement_exceeds};
 ghost use Rattle.ak_syntax.specs.Grammar.{locals};
 ghost use Rattle.ak_syntax.specs.Table.{binds};
 
@@ -11,6 +11,7 @@ use crate::form::form;
 use crate::limit::{bound_count, longest_list};
 use crate::line_form::Form;
 use crate::refusal::{Fault, GrammarKind};
+use crate::version::Version;
 use ak_base::list::{Items, NoMemory};
 use ak_script::script::{Proc, Script, Statement};
 use ak_text::line::Line;
@@ -29,9 +30,10 @@ const MAX_LOCALS: usize = 64;
 /// The most parameters of a procedure, and items of another list of a line.
 const MAX_LISTED: usize = 8;
 
-/// The procedures that were read, and the one whose `end` has not come, with the number of its locals.
+/// The version, the procedures that were read, and the one whose `end` has not come, with the number of its locals.
 #[derive(Debug, Drop)]
 pub struct Reader {
+    of_version: Version,
     procs: Items<Proc>,
     begun: Option<Proc>,
     local_count: usize,
@@ -44,7 +46,7 @@ impl Model for Reader {
 
     ghost Value = { Front };
 
-    ghost view = { λ r. record { procs = r.procs; begun = r.begun } };
+    ghost view = { λ r. record { of_version = r.of_version; procs = r.procs; begun = r.begun } };
 
     ghost invariant = { λ r. IfSome r.begun (λ proc. (r.local_count ≡ length (locals proc)) × (r.local_count ≤ 64)) };
 }
@@ -55,6 +57,7 @@ impl Reader {
         ensures { result ≡ no_lines }
     {
         Reader {
+            of_version: Version::One,
             procs: Items::make(alloc),
             begun: None,
             local_count: 0,
@@ -82,6 +85,7 @@ impl Reader {
         ensures { Becomes result self.new (added self.old form faulty) }
     {
         match form {
+            Form::Async => self.set_version(),
             Form::Head { name, line, params } => self.begin(Proc {
                 name,
                 line,
@@ -91,6 +95,18 @@ impl Reader {
             Form::Body(statement) => self.add_statement(statement, faulty),
             Form::End => self.end(),
         }
+    }
+
+    /// The line of version 2 comes before all others.
+    fn set_version(&mut self) -> Result<(), Fault>
+        ensures { Becomes result self.new (async_added self.old.of_version self.old.procs self.old.begun) }
+    {
+        let comes_first = matches!(self.of_version, Version::One) && self.procs.len() == 0;
+        if !comes_first || self.begun.is_some() {
+            return Err(Fault::Grammar(GrammarKind::BadLine));
+        }
+        self.of_version = Version::Two;
+        Ok(())
     }
 
     fn begin(&mut self, proc: Proc) -> Result<(), Fault>
@@ -124,6 +140,9 @@ impl Reader {
         let Some(proc) = &self.begun else {
             return Err(Fault::Grammar(GrammarKind::BadLine));
         };
+        if !self.of_version.has(&statement.stmt) {
+            return Err(Fault::Grammar(GrammarKind::BadLine));
+        }
         let local_count = self.local_count + bound_count(&statement.stmt);
         if exceeds(proc, statement, local_count) {
             return Err(Fault::Grammar(GrammarKind::TooMany));

@@ -151,13 +151,14 @@ fn group(alloc: Global, first: GroupWord, words: &mut Cursor) -> Result<Stmt, Fa
         }
         GroupWord::Try => {
             let r = words.name(alloc)?;
-            let (proc, args, catch, catch_args) = words.two_calls(alloc)?;
+            let (proc, args, catch, catch_args, mode) = words.guarded_calls(alloc)?;
             Ok(Stmt::Try {
                 r,
                 proc,
                 args,
                 catch,
                 catch_args,
+                mode,
             })
         }
     }

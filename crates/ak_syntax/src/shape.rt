@@ -2,12 +2,12 @@
 
 ghost use Rattle.std.specs.Prelude.{◌≡◌};
 ghost use Rattle.ak_syntax.specs.Words.{Leaves};
-ghost use Rattle.ak_syntax.specs.Rows.{one_name_at, one_atom_at, name_atom_at, two_names_at, work_atom_at, call_at, two_calls_at};
+ghost use Rattle.ak_syntax.specs.Rows.{one_name_at, one_atom_at, name_atom_at, two_names_at, work_atom_at, call_at, two_calls_at, guarded_calls_at};
 
 use crate::cursor::{Cursor, Until};
 use crate::refusal::Fault;
 use ak_base::list::Word;
-use ak_script::statement::{Args, Atom, WorkWord};
+use ak_script::statement::{Args, Atom, GuardMode, WorkWord};
 use std::alloc::Global;
 
 impl<'a> Cursor<'a> {
@@ -84,5 +84,20 @@ impl<'a> Cursor<'a> {
         let other = self.name(alloc)?;
         let other_args = self.args(alloc, Until::LineEnd)?;
         Ok((proc, args, other, other_args))
+    }
+
+    /// The same of a `try`, and what becomes of its later errors.
+    #[tactic(auto, unfolding(crate::specs::Rows::guarded_calls_at))]
+    pub fn guarded_calls(
+        &mut self,
+        alloc: Global,
+    ) -> Result<(Word, Args, Word, Args, GuardMode), Fault>
+        ensures { Leaves (λ x. x) result self.new (guarded_calls_at self.old) }
+    {
+        let proc = self.name(alloc)?;
+        let args = self.args(alloc, Until::Else)?;
+        let catch = self.name(alloc)?;
+        let (catch_args, mode) = self.guard_args(alloc)?;
+        Ok((proc, args, catch, catch_args, mode))
     }
 }

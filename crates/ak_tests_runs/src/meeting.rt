@@ -66,12 +66,24 @@ fn two_threads_meet(rt: HostRuntime) -> Result<(), Fail> {
     let alloc = rt.alloc();
     let meeting = Meeting::make();
     let hands = vec![in alloc;
-        Meeter { meeting: &meeting, plain: Plain::make() },
-        Meeter { meeting: &meeting, plain: Plain::make() },
+        Meeter {
+            meeting: &meeting,
+            plain: Plain::make()
+        },
+        Meeter {
+            meeting: &meeting,
+            plain: Plain::make()
+        },
     ]?;
     let works = [
-        Work { kind: WorkKind::Mix, num: 1 },
-        Work { kind: WorkKind::Mix, num: 2 },
+        Work {
+            kind: WorkKind::Mix,
+            num: 1,
+        },
+        Work {
+            kind: WorkKind::Mix,
+            num: 2,
+        },
     ];
     let served = serve(&rt, alloc, 2, hands, &works)?;
     assert_eq!(rt; served.arrived.len(), 2);

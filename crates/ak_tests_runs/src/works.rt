@@ -139,6 +139,40 @@ fn schedule<R: Wait>(
     (answer, pass)
 }
 
+// The scheduler and the threads side by side.
+fn serve_all<L: Labor + Drop, R: Threads + Wait + Sync>(
+    rt: &R,
+    alloc: Global,
+    hub: &Hub,
+    zero: HubPass,
+    hands: Vec<L>,
+    passes: Vec<HubPass>,
+    works: &[Work],
+) -> (
+    (Vec<L>, Vec<HubPass>),
+    (Result<Vec<(WorkNo, Outcome)>, NoMemory>, HubPass),
+)
+    requires zero { IsFreshZero hub.now zero }
+    requires few { length works.now < 2 ^ 32 - 1 }
+    requires count { (length passes.items ≤ hub.now.threads) × (hub.now.threads ≤ 32) }
+    requires rest { AreAtRest L.carried hub.now 0 hands.items passes.items }
+    ensures rest { AreAtRest L.carried hub.now 0 result.0.0.items result.0.1.items }
+    ensures zero { IsPassOf hub.now 0 result.1.1 }
+{
+    join(
+        rt,
+        move || -> (Vec<L>, Vec<HubPass>)
+            requires { IsSync R.row × (length passes.items ≤ hub.now.threads)
+                × (hub.now.threads ≤ 32) × AreAtRest L.carried hub.now 0 hands.items passes.items }
+            ensures { AreAtRest L.carried hub.entry.now 0 result.0.items result.1.items }
+        { work_all(rt, hub, hands, passes) },
+        move || -> (Result<Vec<(WorkNo, Outcome)>, NoMemory>, HubPass)
+            requires { IsFreshZero hub.now zero × (length works.now < 2 ^ 32 - 1) }
+            ensures { IsPassOf hub.entry.now 0 result.1 }
+        { schedule(rt, alloc, hub, zero, works) },
+    )
+}
+
 /// What the works leave that go through a hub of so many threads, each with the hand at its place.
 pub fn serve<L: Labor + Drop, R: Threads + Wait + Sync>(
     rt: &R,
@@ -153,19 +187,8 @@ pub fn serve<L: Labor + Drop, R: Threads + Wait + Sync>(
 {
     let (hub, mut zero) = Hub::make(alloc, threads)?;
     let passes = make_passes(alloc, &hub, &mut zero, threads)?;
-    let shared = &hub;
-    let ((hands, mut passes), (arrived, zero)) = join(
-        rt,
-        move || -> (Vec<L>, Vec<HubPass>)
-            requires { IsSync R.row × (length passes.items ≤ shared.now.threads)
-                × (shared.now.threads ≤ 32)
-                × AreAtRest L.carried shared.now 0 hands.items passes.items }
-            ensures { AreAtRest L.carried shared.entry.now 0 result.0.items result.1.items }
-        { work_all(rt, shared, hands, passes) },
-        move || -> (Result<Vec<(WorkNo, Outcome)>, NoMemory>, HubPass)
-            requires { IsFreshZero shared.now zero × (length works.now < 2 ^ 32 - 1) }
-            ensures { IsPassOf shared.entry.now 0 result.1 }
-        { schedule(rt, alloc, shared, zero, works) },
+    let ((hands, mut passes), (arrived, zero)) = serve_all(
+        rt, alloc, &hub, zero, hands, passes, works,
     );
     let arrived = arrived?;
     passes.push(zero)?;
@@ -182,16 +205,16 @@ pub fn serve<L: Labor + Drop, R: Threads + Wait + Sync>(
 // Whether each of the works, whose numbers count from 0, arrived once, with its square.
 fn are_squares(arrived: &[(WorkNo, Outcome)], works: i64) -> bool {
     for num in 0..works {
-        let mut found = 0;
+        let mut found = false;
         for (id, outcome) in arrived {
             if i64::from(id.number()) == num {
-                if *outcome != Outcome::Good(num.wrapping_mul(num)) {
+                if found || *outcome != Outcome::Good(num.wrapping_mul(num)) {
                     return false;
                 }
-                found += 1;
+                found = true;
             }
         }
-        if found != 1 {
+        if !found {
             return false;
         }
     }
@@ -201,16 +224,16 @@ fn are_squares(arrived: &[(WorkNo, Outcome)], works: i64) -> bool {
 #[test]
 fn threads_carry_the_works(rt: HostRuntime) -> Result<(), Fail> {
     let alloc = rt.alloc();
-    let mut works = Vec::new(alloc);
-    for num in 0..200 {
-        works.push(Work {
-            kind: WorkKind::Square,
-            num,
-        })?;
+    let mut works = [Work {
+        kind: WorkKind::Square,
+        num: 0,
+    }; 200];
+    for (num, work) in works.iter_mut().enumerate() {
+        work.num = num as i64;
     }
     for threads in [1u32, 2, 4] {
         let hands = plain_hands(alloc, threads)?;
-        let served = serve(&rt, alloc, threads, hands, works.as_slice())?;
+        let served = serve(&rt, alloc, threads, hands, &works)?;
         assert_eq!(rt; served.arrived.len(), 200);
         assert!(rt; are_squares(served.arrived.as_slice(), 200));
         assert_eq!(rt; served.hands, threads as usize);

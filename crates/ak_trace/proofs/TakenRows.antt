@@ -80,6 +80,7 @@ error_entry_sound : (first : ErrorWord) (words left : List (List ℕ)) (e : Entr
 unfolding error_entry
 error_entry_sound error.Monitor words left e = mapped_sound (λ t. entry.Monitor t.0 t.1) (codes "monitor") entry_row (both_part thing_part thing_part) (λ t. refl) words left e
 error_entry_sound error.Detach words left e = mapped_sound (λ t. entry.Detach t) (codes "detach") entry_row thing_part (λ t. refl) words left e
+error_entry_sound error.Attach words left e = mapped_sound (λ t. entry.Attach t) (codes "attach") entry_row thing_part (λ t. refl) words left e
 error_entry_sound error.Error words left e = mapped_sound (λ t. entry.Error t.0 t.1) (codes "error") entry_row (both_part signed_part thing_part) (λ t. refl) words left e
 error_entry_sound error.Caught words left e = mapped_sound (λ t. entry.Caught t) (codes "caught") entry_row thing_part (λ t. refl) words left e
 error_entry_sound error.Rest words left e = mapped_sound (λ t. entry.Rest t) (codes "rest") entry_row signed_part (λ t. refl) words left e
@@ -137,6 +138,7 @@ entry_at_complete words (entry.Join result right) places h = row_complete (λ t.
 entry_at_complete words (entry.Print num) places h = row_complete (λ t. entry.Print t) (codes "print") signed_part (λ ws. refl) num words places h
 entry_at_complete words (entry.Monitor mon parent) places h = row_complete (λ t. entry.Monitor t.0 t.1) (codes "monitor") (both_part thing_part thing_part) (λ ws. refl) (mon, parent) words places h
 entry_at_complete words (entry.Detach mon) places h = row_complete (λ t. entry.Detach t) (codes "detach") thing_part (λ ws. refl) mon words places h
+entry_at_complete words (entry.Attach mon) places h = row_complete (λ t. entry.Attach t) (codes "attach") thing_part (λ ws. refl) mon words places h
 entry_at_complete words (entry.Error num mon) places h = row_complete (λ t. entry.Error t.0 t.1) (codes "error") (both_part signed_part thing_part) (λ ws. refl) (num, mon) words places h
 entry_at_complete words (entry.Caught mon) places h = row_complete (λ t. entry.Caught t) (codes "caught") thing_part (λ ws. refl) mon words places h
 entry_at_complete words (entry.Rest num) places h = row_complete (λ t. entry.Rest t) (codes "rest") signed_part (λ ws. refl) num words places h

@@ -22,6 +22,7 @@ entry_row (entry.Join result right) = Exactly (codes "join") ∷ Thing result �
 entry_row (entry.Print num) = Exactly (codes "print") ∷ Signed num ∷ []
 entry_row (entry.Monitor mon parent) = Exactly (codes "monitor") ∷ Thing mon ∷ Thing parent ∷ []
 entry_row (entry.Detach mon) = Exactly (codes "detach") ∷ Thing mon ∷ []
+entry_row (entry.Attach mon) = Exactly (codes "attach") ∷ Thing mon ∷ []
 entry_row (entry.Error num mon) = Exactly (codes "error") ∷ Signed num ∷ Thing mon ∷ []
 entry_row (entry.Caught mon) = Exactly (codes "caught") ∷ Thing mon ∷ []
 entry_row (entry.Rest num) = Exactly (codes "rest") ∷ Signed num ∷ []

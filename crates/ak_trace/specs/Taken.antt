@@ -34,13 +34,14 @@ job_named word = find (λ first. bytes_eq (job_word first) word) all_job_words
 abbrev pub error_word : ErrorWord → List ℕ
 error_word error.Monitor = codes "monitor"
 error_word error.Detach = codes "detach"
+error_word error.Attach = codes "attach"
 error_word error.Error = codes "error"
 error_word error.Caught = codes "caught"
 error_word error.Rest = codes "rest"
 error_word error.Unhandled = codes "unhandled"
 
 abbrev pub all_error_words : List ErrorWord
-all_error_words = error.Monitor ∷ error.Detach ∷ error.Error ∷ error.Caught ∷ error.Rest ∷ error.Unhandled ∷ []
+all_error_words = error.Monitor ∷ error.Detach ∷ error.Attach ∷ error.Error ∷ error.Caught ∷ error.Rest ∷ error.Unhandled ∷ []
 
 unfoldable pub error_named : List ℕ → Option ErrorWord
 error_named word = find (λ first. bytes_eq (error_word first) word) all_error_words
@@ -97,6 +98,7 @@ job_entry job.Print = mapped (λ t. entry.Print t) signed_at
 unfoldable pub error_entry : ErrorWord → Part Entry
 error_entry error.Monitor = mapped (λ t. entry.Monitor t.0 t.1) (both thing_at thing_at)
 error_entry error.Detach = mapped (λ t. entry.Detach t) thing_at
+error_entry error.Attach = mapped (λ t. entry.Attach t) thing_at
 error_entry error.Error = mapped (λ t. entry.Error t.0 t.1) (both signed_at thing_at)
 error_entry error.Caught = mapped (λ t. entry.Caught t) thing_at
 error_entry error.Rest = mapped (λ t. entry.Rest t) signed_at

@@ -36,6 +36,7 @@ entry_words (entry.Join result right) = codes "join" ∷ decimal result ∷ deci
 entry_words (entry.Print num) = codes "print" ∷ decimal_of num ∷ []
 entry_words (entry.Monitor mon parent) = codes "monitor" ∷ decimal mon ∷ decimal parent ∷ []
 entry_words (entry.Detach mon) = codes "detach" ∷ decimal mon ∷ []
+entry_words (entry.Attach mon) = codes "attach" ∷ decimal mon ∷ []
 entry_words (entry.Error num mon) = codes "error" ∷ decimal_of num ∷ decimal mon ∷ []
 entry_words (entry.Caught mon) = codes "caught" ∷ decimal mon ∷ []
 entry_words (entry.Rest num) = codes "rest" ∷ decimal_of num ∷ []

@@ -56,6 +56,10 @@ pub enum Entry {
     Detach {
         mon: MonNo,
     },
+    /// A monitor is detached no longer.
+    Attach {
+        mon: MonNo,
+    },
     /// An error is sent to a monitor.
     Error {
         num: Num,

@@ -50,6 +50,7 @@ impl JobWord {
 pub enum ErrorWord {
     Monitor,
     Detach,
+    Attach,
     Error,
     Caught,
     Rest,
@@ -63,6 +64,7 @@ impl ErrorWord {
         match self {
             ErrorWord::Monitor => b"monitor",
             ErrorWord::Detach => b"detach",
+            ErrorWord::Attach => b"attach",
             ErrorWord::Error => b"error",
             ErrorWord::Caught => b"caught",
             ErrorWord::Rest => b"rest",
@@ -78,6 +80,7 @@ impl ErrorWord {
         let all = [
             ErrorWord::Monitor,
             ErrorWord::Detach,
+            ErrorWord::Attach,
             ErrorWord::Error,
             ErrorWord::Caught,
             ErrorWord::Rest,

@@ -66,7 +66,10 @@ fn in_range(entry: Entry)
             mon.number();
             parent.number();
         }
-        Entry::Detach { mon } | Entry::Caught { mon } | Entry::Error { mon, .. } => {
+        Entry::Detach { mon }
+        | Entry::Attach { mon }
+        | Entry::Caught { mon }
+        | Entry::Error { mon, .. } => {
             mon.number();
         }
         Entry::Fill { ivar, .. } => {

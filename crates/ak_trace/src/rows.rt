@@ -87,6 +87,10 @@ fn error_entry(first: ErrorWord, row: &mut Row) -> Option<Entry>
             let mon = row.number()?;
             Some(Entry::Detach { mon })
         }
+        ErrorWord::Attach => {
+            let mon = row.number()?;
+            Some(Entry::Attach { mon })
+        }
         ErrorWord::Error => {
             let num = row.signed()?;
             let mon = row.number()?;

@@ -132,6 +132,11 @@ fn put_entry<K: Sink>(entry: Entry, buffer: &mut Buffer, sink: &mut K) -> Result
             buffer,
             sink,
         ),
+        Entry::Attach { mon } => put_pieces(
+            &[Text("attach "), Piece::number(mon), Text("\n")],
+            buffer,
+            sink,
+        ),
         Entry::Error { num, mon } => put_pieces(
             &[
                 Text("error "),

@@ -77,7 +77,7 @@ callees (Sched proc args) = record { name = proc; front = 0; args = args } ∷ [
 callees (Low proc args) = record { name = proc; front = 0; args = args } ∷ []
 callees (Within m proc args) = record { name = proc; front = 0; args = args } ∷ []
 callees (OnError m proc args) = record { name = proc; front = 1; args = args } ∷ []
-callees (Try r proc args catch catch_args) = record { name = proc; front = 0; args = args } ∷ record { name = catch; front = 1; args = catch_args } ∷ []
+callees (Try r proc args catch catch_args mode) = record { name = proc; front = 0; args = args } ∷ record { name = catch; front = 1; args = catch_args } ∷ []
 callees (Enqueue r t proc args) = record { name = proc; front = 0; args = args } ∷ []
 callees (Read r p proc args eof eof_args) = record { name = proc; front = 1; args = args } ∷ record { name = eof; front = 0; args = eof_args } ∷ []
 callees _ = []

@@ -11,7 +11,7 @@ use crate::places::{
 use crate::procs::Procs;
 use ak_base::list::{NoMemory, Word};
 use ak_program::statement::NumStmt;
-use ak_script::statement::{Args, Atom, Choices, Names, Operator, Stmt, WorkWord};
+use ak_script::statement::{Args, Atom, Choices, GuardMode, Names, Operator, Stmt, WorkWord};
 use std::alloc::Global;
 
 /// A statement by its places.
@@ -60,7 +60,8 @@ pub fn statement(
             args,
             catch,
             catch_args,
-        } => trying(alloc, procs, locals, r, proc, args, catch, catch_args),
+            mode,
+        } => trying(alloc, procs, locals, r, proc, args, catch, catch_args, *mode),
         Stmt::Throttle { t, k, stop } => Ok(throttle(locals, t, *k, *stop)),
         Stmt::Enqueue { r, t, proc, args } => enqueue(alloc, procs, locals, r, t, proc, args),
         Stmt::ThrottleDone { r, t } => Ok(throttle_done(locals, r, t)),
@@ -373,8 +374,9 @@ fn trying(
     args: &Args,
     catch: &Word,
     catch_args: &Args,
+    mode: GuardMode,
 ) -> Result<NumStmt, NoMemory>
-    ensures { IfOk result (λ stmt. stmt ≡ by_place.Try (at (param_names locals.now) r.now) (at (proc_names procs.now) proc.now) (map (numbered_atom (param_names locals.now)) args.now) (at (proc_names procs.now) catch.now) (map (numbered_atom (param_names locals.now)) catch_args.now)) }
+    ensures { IfOk result (λ stmt. stmt ≡ by_place.Try (at (param_names locals.now) r.now) (at (proc_names procs.now) proc.now) (map (numbered_atom (param_names locals.now)) args.now) (at (proc_names procs.now) catch.now) (map (numbered_atom (param_names locals.now)) catch_args.now) mode) }
 {
     Ok(NumStmt::Try {
         r: locals.place(r.as_slice()),
@@ -382,6 +384,7 @@ fn trying(
         args: numbered_args(alloc, locals, args.as_slice())?,
         catch: procs.place(catch.as_slice()),
         catch_args: numbered_args(alloc, locals, catch_args.as_slice())?,
+        mode,
     })
 }
 

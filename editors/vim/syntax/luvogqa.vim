@@ -11,7 +11,7 @@ syntax case match
 " Jobs:                  sched P args | low P args
 " Time:                  after r n | event e r n | abort e | tick n
 " Monitors:              monitor m | within m P args | detach m | onerror m P args | nexterr r m
-"                        try r P args else Q args
+"                        try r P args else Q args | try r P args else Q args rest raise (below a first line: async 2)
 " Throttles:             throttle t k stop | throttle t k go | enqueue r t P args | tdone r t
 " Pipes:                 pipe p b | write r p a | put p a | rd r p P args else Q args
 "                        close p | closeread p | flushed r p
@@ -19,7 +19,7 @@ syntax case match
 
 " A line begins with its statement; `if a` and `unless a` may stand in front of one that binds nothing.
 syntax match luvogqaPrefix "^\s*\zs\(if\|unless\)\ze\s\+\S\+\s"
-syntax match luvogqaFrame "^\s*\zs\(proc\|end\)\ze\(\s\|#\|$\)"
+syntax match luvogqaFrame "^\s*\zs\(async\|proc\|end\)\ze\(\s\|#\|$\)"
 syntax match luvogqaStatement "\(^\s*\(\(if\|unless\)\s\+\S\+\s\+\)\?\)\@<=\(fill\|offer\|upon\|sched\|low\|print\)\ze\(\s\|#\|$\)"
 syntax match luvogqaStatement "\(^\s*\(\(if\|unless\)\s\+\S\+\s\+\)\?\)\@<=\(abort\|tick\|within\|detach\|onerror\|raise\|send\)\ze\(\s\|#\|$\)"
 syntax match luvogqaStatement "\(^\s*\(\(if\|unless\)\s\+\S\+\s\+\)\?\)\@<=\(put\|close\|closeread\|hdone\|stop\|ret\)\ze\(\s\|#\|$\)"
@@ -30,6 +30,7 @@ syntax match luvogqaBinding "^\s*\zs\(work\|helper\|hwork\)\ze\(\s\|#\|$\)"
 " Words in the middle of a statement.
 syntax match luvogqaMiddle "\s\zs\(then\|with\|else\|rest\)\ze\(\s\|#\|$\)"
 syntax match luvogqaMode "\(^\s*throttle\s.*\s\)\@<=\(stop\|go\)\ze\s*\(#\|$\)"
+syntax match luvogqaMode "\(^\s*try\s.*\srest\s\+\)\@<=raise\ze\s*\(#\|$\)"
 syntax match luvogqaWork "\(^\s*h\?work\s.*\s\)\@<=\(square\|mix\|fail\)\ze\s"
 syntax match luvogqaKind ":\(num\|ivar\|def\|mon\|pipe\|thr\|event\|helper\)\ze\(\s\|#\|$\)"
 syntax match luvogqaOperator "\s\zs\(+\|-\|\*\|/\|%\|<\|<=\|=\|!=\)\ze\s"

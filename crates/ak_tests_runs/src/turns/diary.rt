@@ -2,9 +2,9 @@
 ghost use Rattle.std.specs.Prelude.{◌≡◌, ◌<◌, [], ◌∷◌, ◌++◌, length, IsTrue, true, false, MatchBool};
 ghost use Rattle.ak_turn.specs.Seen.{IsIdleOf};
 
+use ak_base::list::Items;
 use ak_turn::guarded::Guarded;
 use ak_turn::lock::{Pass, Turn};
-use ak_base::list::Items;
 use std::alloc::{AllocError, Global};
 use std::sync::Wait;
 use std::test::*;

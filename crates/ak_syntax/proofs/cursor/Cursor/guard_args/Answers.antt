@@ -1,0 +1,53 @@
+use Rattle.std.proofs.Common.{◌≡◌, Bool, true, false, Some, None, Ok, sym, ap}
+use Rattle.std.proofs.lemmas.Result.{err_from_is_err_and}
+use Rattle.std.specs.Prelude.{codes}
+use Rattle.std.specs.Str.{bytes_eq}
+use Rattle.ak_syntax.specs.declared.cursor.Until.TheVariants.{LineEnd}
+use Rattle.ak_syntax.specs.Words.{guard_args_at, raise_at, atom_found, listed_at}
+use Rattle.ak_syntax.proofs.Lists.{guard_goes_on, guard_ends, guard_raises, guard_stops, guard_stops_raise, guard_stops_at, refused_as, fewer_words, is_none}
+use Rattle.ak_syntax.proofs.cursor.Cursor.guard_args.Goals as goal
+
+pub returns-in_err-word : goal.returns-in_err-word
+returns-in_err-word c =
+    let p = err_from_is_err_and c.from_residual.result c.from_residual.ensures.1 in
+    rw (p.1, p.2) (refused_as c.in_err-word.field-0.0 (listed_at LineEnd c.loop-args.self) (guard_args_at c.args.self.now) c.in_err-word.ensures
+    (λ kind h. guard_stops c.loop-args.self c.loop-args.args _ kind c.loop-args.invariant h))
+
+pub returns-in_err-raise : goal.returns-in_err-raise
+returns-in_err-raise c =
+    let p = err_from_is_err_and c.from_residual-in_err-raise.result c.from_residual-in_err-raise.ensures.1 in
+    let next : listed_at LineEnd c.loop-args.self ≡ Ok (Some c.in-Some.word.now, c.listed.new.self) = rw (c.in-Some.is) at c.in_ok-word.ensures in
+    let here : bytes_eq c.in-Some.word.now (codes "rest") ≡ true = sym c.if-is_rest.ensures in
+    rw (p.1, p.2) (refused_as c.in_err-raise.field-0.0 (raise_at c.listed.new.self) (guard_args_at c.args.self.now) c.in_err-raise.ensures
+    (λ kind h. guard_stops_raise c.loop-args.self c.listed.new.self c.loop-args.args c.in-Some.word.now _ kind c.loop-args.invariant next here h))
+
+pub returns-then-is_rest : goal.returns-then-is_rest
+returns-then-is_rest c =
+    let next : listed_at LineEnd c.loop-args.self ≡ Ok (Some c.in-Some.word.now, c.listed.new.self) = rw (c.in-Some.is) at c.in_ok-word.ensures in
+    let here : bytes_eq c.in-Some.word.now (codes "rest") ≡ true = sym c.if-is_rest.ensures in
+    guard_raises c.loop-args.self c.listed.new.self c.raise.new.self c.loop-args.args c.in-Some.word.now _ c.loop-args.invariant next here c.in_ok-raise.ensures
+
+pub returns-in_err-arg : goal.returns-in_err-arg
+returns-in_err-arg c =
+    let p = err_from_is_err_and c.from_residual-in_err-arg.result c.from_residual-in_err-arg.ensures.1 in
+    let next : listed_at LineEnd c.loop-args.self ≡ Ok (Some c.in-Some.word.now, c.listed.new.self) = rw (c.in-Some.is) at c.in_ok-word.ensures in
+    let other : bytes_eq c.in-Some.word.now (codes "rest") ≡ false = sym c.if-is_rest.ensures in
+    rw (p.1, p.2) (refused_as c.in_err-arg.field-0.0 (atom_found c.in-Some.word.now) (guard_args_at c.args.self.now) c.in_err-arg.ensures
+    (λ kind h. guard_stops_at c.loop-args.self c.listed.new.self c.loop-args.args c.in-Some.word.now _ kind c.loop-args.invariant next other h))
+
+pub loop-args-smaller : goal.loop-args-smaller
+loop-args-smaller c =
+    let next : listed_at LineEnd c.loop-args.self ≡ Ok (Some c.in-Some.word.now, c.listed.new.self) = rw (c.in-Some.is) at c.in_ok-word.ensures in
+    rw (c.mark.ensures) (fewer_words LineEnd c.loop-args.self c.listed.new.self c.in-Some.word.now next)
+
+pub loop-args-preserved : goal.loop-args-preserved
+loop-args-preserved c =
+    let next : listed_at LineEnd c.loop-args.self ≡ Ok (Some c.in-Some.word.now, c.listed.new.self) = rw (c.in-Some.is) at c.in_ok-word.ensures in
+    let other : bytes_eq c.in-Some.word.now (codes "rest") ≡ false = sym c.if-is_rest.ensures in
+    guard_goes_on c.loop-args.self c.listed.new.self c.mark.new.self c.loop-args.args c.push.new.self c.in-Some.word.now c.in_ok-arg.arg c.in_ok-arg.faulty _
+    c.loop-args.invariant next other c.in_ok-arg.ensures c.in_ok-push.ensures.ok (ap (λ w. w.words) c.mark.ensures) (ap (λ w. w.faulty) c.mark.ensures)
+
+pub returns : goal.returns
+returns c =
+    let over : listed_at LineEnd c.loop-args.self ≡ Ok (None, c.listed.new.self) = rw (is_none c.in_ok-word.field-0 c.in_default.not-Some) at c.in_ok-word.ensures in
+    guard_ends c.loop-args.self c.listed.new.self c.loop-args.args _ c.loop-args.invariant over
