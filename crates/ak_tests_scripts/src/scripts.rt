@@ -225,7 +225,19 @@ const ROWS: &str = "00 proc main;set x a + b;end
 11 proc 5x;end
 00 proc end;end;proc proc;end;proc print;end
 24 proc main;print 99999999999999999999;end
-21 proc main;if 1 ivar i;end";
+21 proc main;if 1 ivar i;end
+00 async 2;proc main;end
+00 # c;;async 2 # c;proc main;end
+11 async 3;proc main;end
+11 async -0;proc main;end
+11 async 1000001;proc main;end
+21 async 2;async 2;proc main;end
+31 proc main;end;async 2
+21 proc main;try r P else Q rest raise;end
+00 async 2;proc main;try r P else Q rest raise;end
+00 async 2;proc main;try r P 1 else Q 2 rest raise;end
+31 async 2;proc main;try r P else Q rest;end
+31 async 2;proc main;try r P else Q rest drop;end";
 
 #[test]
 fn first_faults_of_texts(rt: HostRuntime) -> Result<(), AllocError> {
