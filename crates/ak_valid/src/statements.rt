@@ -61,7 +61,9 @@ pub fn statement(
             catch,
             catch_args,
             mode,
-        } => trying(alloc, procs, locals, r, proc, args, catch, catch_args, *mode),
+        } => trying(
+            alloc, procs, locals, r, proc, args, catch, catch_args, *mode,
+        ),
         Stmt::Throttle { t, k, stop } => Ok(throttle(locals, t, *k, *stop)),
         Stmt::Enqueue { r, t, proc, args } => enqueue(alloc, procs, locals, r, t, proc, args),
         Stmt::ThrottleDone { r, t } => Ok(throttle_done(locals, r, t)),
