@@ -13,7 +13,7 @@ pub struct Case {
 /// each end of a line.
 pub fn case_of(alloc: Global, row: &str) -> Result<Case, AllocError> {
     let (fault, text) = match row.as_bytes() {
-        [line, kind, _, text @ ..] => ((digit(*line), digit(*kind) as u8), text),
+        [line, kind, _, text @ ..] => ((u32::from(digit(*line)), digit(*kind)), text),
         text => ((0, 0), text),
     };
     let text = text
@@ -23,6 +23,6 @@ pub fn case_of(alloc: Global, row: &str) -> Result<Case, AllocError> {
     Ok(Case { fault, text })
 }
 
-fn digit(byte: u8) -> u32 {
-    u32::from(byte.saturating_sub(b'0'))
+fn digit(byte: u8) -> u8 {
+    byte.saturating_sub(b'0')
 }
