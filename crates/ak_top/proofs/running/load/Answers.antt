@@ -1,4 +1,4 @@
-use Rattle.ak_top.proofs.Loading.{parse_refuses, valid_refuses, valid_accepts, taken_has_no_fault}
+use Rattle.ak_top.proofs.Loading.{parse_refuses, parse_accepts, valid_refuses, valid_accepts, taken_has_no_fault}
 use Rattle.ak_top.proofs.running.load.Goals as goal
 
 pub returns-in-Ok-validate-clause-refuses : goal.returns-in-Ok-validate-clause-refuses
@@ -16,3 +16,7 @@ returns-in-Err-validate-clause-accepts c = λ s is.
 pub returns-in-Err-clause-refuses : goal.returns-in-Err-clause-refuses
 returns-in-Err-clause-refuses c = λ line kind f.
     rw c.from-in-Err.ensures (parse_refuses c.args.bytes.now c.in-Err.refused c.in-Err.ensures.script c.in-Err.ensures.fault line kind f)
+
+pub returns-in-Err-clause-accepts : goal.returns-in-Err-clause-accepts
+returns-in-Err-clause-accepts c = λ s is.
+    rw c.from-in-Err.ensures (parse_accepts c.args.bytes.now c.in-Err.refused c.in-Err.ensures.script s is)
