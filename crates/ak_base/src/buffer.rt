@@ -1,7 +1,7 @@
 //! A buffer before a sink.
 
-ghost use Rattle.std.specs.Prelude.{◌≡◌, ◌≤◌, ◌++◌, ◌+◌, [], length, OnOk, OnErr};
-ghost use Rattle.ak_base.specs.Streams.{Rose, grown, TookBeginning, Passes};
+ghost use Rattle.std.specs.Prelude.{◌≡◌, ◌≤◌, ◌++◌, ◌+◌, [], length};
+ghost use Rattle.ak_base.specs.Streams.{HasWritten, HasPut};
 
 use crate::sink::{Sink, WriteFailed, write_all};
 use std::marker::Model;
@@ -44,11 +44,9 @@ impl Buffer {
     /// `WriteFailed`, only where the sink's count of faults rose. A beginning of what waited was then taken, and the
     /// rest is lost.
     pub fn flush<K: Sink>(&mut self, sink: &mut K) -> Result<(), WriteFailed>
-        ensures takes { OnOk result (K.taken sink.new ≡ grown (K.taken sink.old) self.old) }
-        ensures begins { OnErr result (TookBeginning (K.taken sink.old) (K.taken sink.new) self.old) }
+        ensures written { HasWritten result
+            (K.taken sink.old) (K.taken sink.new) (K.faults sink.old) (K.faults sink.new) self.old }
         ensures empty { self.new ≡ [] }
-        ensures never_falls { K.faults sink.old ≤ K.faults sink.new }
-        ensures cause { OnErr result (Rose (K.faults sink.old) (K.faults sink.new)) }
     {
         let len = self.len;
         self.len = 0;
@@ -63,11 +61,9 @@ impl Buffer {
     /// `WriteFailed`, only where the sink's count of faults rose. A beginning of what waited and of the piece was
     /// then taken, and the rest is lost.
     pub fn put<K: Sink>(&mut self, sink: &mut K, piece: &[u8]) -> Result<(), WriteFailed>
-        ensures passes { OnOk result (Passes (K.taken sink.old) (K.taken sink.new) self.old self.new piece.now) }
-        ensures begins { OnErr result (TookBeginning (K.taken sink.old) (K.taken sink.new) (self.old ++ piece.now)) }
-        ensures lost { OnErr result (self.new ≡ []) }
-        ensures never_falls { K.faults sink.old ≤ K.faults sink.new }
-        ensures cause { OnErr result (Rose (K.faults sink.old) (K.faults sink.new)) }
+        ensures { HasPut result
+            (K.taken sink.old) (K.taken sink.new) (K.faults sink.old) (K.faults sink.new)
+            self.old self.new piece.now }
     {
         if piece.len() > ROOM - self.len {
             self.flush(sink)?;

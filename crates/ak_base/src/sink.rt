@@ -1,7 +1,7 @@
 //! Sinks of bytes.
 
-ghost use Rattle.std.specs.Prelude.{◌≡◌, ◌≤◌, ◌<◌, length, take, IfOk, OnOk, OnErr};
-ghost use Rattle.ak_base.specs.Streams.{Rose, grown, TookBeginning};
+ghost use Rattle.std.specs.Prelude.{◌≡◌, ◌≤◌, ◌<◌, length, take, IfOk, OnErr};
+ghost use Rattle.ak_base.specs.Streams.{Rose, grown, HasWritten};
 
 use std::error::Error;
 use std::fmt;
@@ -50,10 +50,8 @@ pub trait Sink {
 ///
 /// `WriteFailed`, only where the sink's count of faults rose. A beginning of the bytes was then taken.
 pub fn write_all<K: Sink>(sink: &mut K, bytes: &[u8]) -> Result<(), WriteFailed>
-    ensures takes { OnOk result (K.taken sink.new ≡ grown (K.taken sink.old) bytes.now) }
-    ensures begins { OnErr result (TookBeginning (K.taken sink.old) (K.taken sink.new) bytes.now) }
-    ensures never_falls { K.faults sink.old ≤ K.faults sink.new }
-    ensures cause { OnErr result (Rose (K.faults sink.old) (K.faults sink.new)) }
+    ensures { HasWritten result
+        (K.taken sink.old) (K.taken sink.new) (K.faults sink.old) (K.faults sink.new) bytes.now }
 {
     let mut at = 0;
     while at < bytes.len() {

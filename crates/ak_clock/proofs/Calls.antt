@@ -10,9 +10,11 @@ use Rattle.ak_clock.specs.declared.alarm.Alarm.{Alarm}
 use Rattle.ak_clock.specs.Clock.{Clock, is_alarm, is_other_alarm, is_due, is_early, by_time, due_alarms, due_taken, ivar_of}
 use Rattle.ak_clock.specs.Clock.{without_this, without_alarm, without_due, without_yields}
 use Rattle.ak_clock.specs.Calls.{Give, DueGives, due_given, due_ivars, YieldsGiven, yield_given}
-use Rattle.ak_clock.specs.Order.{AreNumbered, IsBefore, AreByTime}
+use Rattle.ak_base.specs.Numbers.{AreNumbered}
+use Rattle.ak_clock.specs.Order.{number_of, IsBefore, AreByTime}
 use Rattle.ak_clock.proofs.Numbered.{IsFound, each_found}
-use Rattle.ak_clock.proofs.Due.{numbered_filtered, all_by_time, due_in_order, filtered, has_due_same}
+use Rattle.ak_base.proofs.Numbers.{numbered_filtered}
+use Rattle.ak_clock.proofs.Due.{all_by_time, due_in_order, filtered, has_due_same}
 use Rattle.ak_clock.proofs.Kept.{all_kept}
 
 -- what calls give is determined
@@ -86,14 +88,14 @@ either_order p q [] = refl
 either_order p q (a ∷ xs) = either_order_by (p a) (q a) p q a xs refl refl (either_order p q xs)
 
 -- without the first that is due, the others are due
-due_behind : (c : Clock) (high : ℕ) (a : Alarm) (due : List Alarm) → AreNumbered 0 high c.alarms → due_alarms c ≡ a ∷ due
+due_behind : (c : Clock) (high : ℕ) (a : Alarm) (due : List Alarm) → AreNumbered number_of 0 high c.alarms → due_alarms c ≡ a ∷ due
     → due_alarms (without_alarm a.no c) ≡ due
 due_behind c high a due n e =
     let found : All (IsFound c.alarms) (due_alarms c) =
     all_by_time (IsFound c.alarms) (filter (is_due c.time) c.alarms)
     (All-filter (is_due c.time) (IsFound c.alarms) c.alarms (each_found 0 high c.alarms n))
     in ap by_time (either_order (is_due c.time) (is_other_alarm a.no) c.alarms)
-    ∙ sym (filtered (is_other_alarm a.no) high (filter (is_due c.time) c.alarms) (numbered_filtered (is_due c.time) 0 high c.alarms n))
+    ∙ sym (filtered (is_other_alarm a.no) high (filter (is_due c.time) c.alarms) (numbered_filtered number_of (is_due c.time) 0 high c.alarms n))
     ∙ ap (filter (is_other_alarm a.no)) e
     ∙ others_behind a due c.alarms (subst AreByTime e (due_in_order c 0 high n)) (subst (All (IsFound c.alarms)) e found)
 
@@ -129,7 +131,7 @@ one_due now a b alarms d f g o = by (b.no == a.no) refl o
     by true e h = subst (λ (x : Alarm). is_due now x ≡ true) (some_same a b (sym f ∙ ap (λ n. find (is_alarm n) alarms) (sym (eqb-true b.no a.no e)) ∙ g)) d
     by false e h = absurd (true≢false h)
 
-left_same : (c : Clock) (high : ℕ) (a : Alarm) (due : List Alarm) → AreNumbered 0 high c.alarms → due_alarms c ≡ a ∷ due
+left_same : (c : Clock) (high : ℕ) (a : Alarm) (due : List Alarm) → AreNumbered number_of 0 high c.alarms → due_alarms c ≡ a ∷ due
     → without_due (without_alarm a.no c) ≡ without_due c
 left_same c high a due n e =
     let each : All (IsFound c.alarms) c.alarms = each_found 0 high c.alarms n
@@ -164,7 +166,7 @@ no_due c e = by (filter (is_due c.time) c.alarms) (sym (has_due_same c) ∙ ap (
     by [] h = refl
     by (x ∷ xs) h = absurd (true≢false h)
 
-due_given_from : (due : List Alarm) (c : Clock) (high : ℕ) → AreNumbered 0 high c.alarms → due_alarms c ≡ due
+due_given_from : (due : List Alarm) (c : Clock) (high : ℕ) → AreNumbered number_of 0 high c.alarms → due_alarms c ≡ due
     → DueGives (map (λ alarm. alarm.ivar) due) c (without_due c)
 due_given_from [] c high n e = (
   ap (λ xs. ivar_of (first_of xs)) e,
@@ -173,13 +175,13 @@ due_given_from [] c high n e = (
 due_given_from (a ∷ due) c high n e =
     let left : Clock = without_alarm a.no c
     in let rest : DueGives (map (λ alarm. alarm.ivar) due) left (without_due left) =
-    due_given_from due left high (numbered_filtered (is_other_alarm a.no) 0 high c.alarms n) (due_behind c high a due n e)
+    due_given_from due left high (numbered_filtered number_of (is_other_alarm a.no) 0 high c.alarms n) (due_behind c high a due n e)
     in (
       ap (λ xs. ivar_of (first_of xs)) e,
       subst (λ (x : Clock). DueGives (map (λ alarm. alarm.ivar) due) x (without_due c)) (sym (ap (λ xs. without_this (first_of xs) c) e))
           (subst (DueGives (map (λ alarm. alarm.ivar) due) left) (left_same c high a due n e) rest),
     )
 
-pub due_exactly : (ivars : List ℕ) (c after : Clock) (high : ℕ) → AreNumbered 0 high c.alarms
+pub due_exactly : (ivars : List ℕ) (c after : Clock) (high : ℕ) → AreNumbered number_of 0 high c.alarms
     → DueGives ivars c after ↔ ((ivars ≡ due_ivars c) × (after ≡ without_due c))
 due_exactly ivars c after high n = exactly due_given due_taken ivars (due_ivars c) c after (without_due c) (due_given_from (due_alarms c) c high n refl)

@@ -7,8 +7,9 @@ use Rattle.std.proofs.lemmas.List.Elements.{All-nil, All-cons, All-head, All-tai
 use Rattle.ak_base.specs.Lists.{first_of, is_empty_list}
 use Rattle.ak_clock.specs.declared.alarm.Alarm.{Alarm}
 use Rattle.ak_clock.specs.Clock.{Clock, is_due, insert_alarm, inserted, by_time, due_alarms, has_due}
-use Rattle.ak_clock.specs.Order.{AreNumbered, IsBefore, AreByTime}
-use Rattle.ak_clock.proofs.Numbered.{lowered}
+use Rattle.ak_base.specs.Numbers.{AreNumbered}
+use Rattle.ak_clock.specs.Order.{number_of, IsBefore, AreByTime}
+use Rattle.ak_base.proofs.Numbers.{numbered_filtered}
 
 first_cond : (t : Bool) (a b : Alarm) (xs ys : List Alarm) → first_of (cond t (a ∷ xs) (b ∷ ys)) ≡ cond t (Some a) (Some b)
 first_cond true a b xs ys = refl
@@ -100,27 +101,18 @@ put_in_order low y acc n s l = (
   all_inserted (λ (x : Alarm). x.no < y.no + 1) y acc (omega arith) (λ k d h. omega (arith, l k d h, n)),
 )
 
-sorted_from : (low high : ℕ) (acc ys : List Alarm) → AreNumbered low high ys → AreByTime acc → AreBelow low acc → AreByTime (fold inserted acc ys)
+sorted_from : (low high : ℕ) (acc ys : List Alarm) → AreNumbered number_of low high ys → AreByTime acc → AreBelow low acc → AreByTime (fold inserted acc ys)
 sorted_from low high acc [] n s l = s
 sorted_from low high acc (y ∷ ys) n s l =
     let put = put_in_order low y acc n.0 s l
     in sorted_from (y.no + 1) high (insert_alarm y acc) ys n.2 put.0 put.1
 
-pub sorted : (high : ℕ) (xs : List Alarm) → AreNumbered 0 high xs → AreByTime (by_time xs)
+pub sorted : (high : ℕ) (xs : List Alarm) → AreNumbered number_of 0 high xs → AreByTime (by_time xs)
 sorted high xs n = sorted_from 0 high [] xs n tt (All-nil (λ (x : Alarm). x.no < 0))
 
-numbered_kept : (t : Bool) (low high : ℕ) (x : Alarm) (ys : List Alarm) → low ≤ x.no → x.no < high → AreNumbered (x.no + 1) high ys
-    → AreNumbered low high (cond t (x ∷ ys) ys)
-numbered_kept true low high x ys p q a = (p, q, a)
-numbered_kept false low high x ys p q a = lowered low (x.no + 1) high ys (omega (arith, p)) a
-
-pub numbered_filtered : (p : Alarm → Bool) (low high : ℕ) (xs : List Alarm) → AreNumbered low high xs → AreNumbered low high (filter p xs)
-numbered_filtered p low high [] a = a
-numbered_filtered p low high (x ∷ xs) a = numbered_kept (p x) low high x (filter p xs) a.0 a.1 (numbered_filtered p (x.no + 1) high xs a.2)
-
 -- due alarms come in order of time and then of number
-pub due_in_order : (c : Clock) (low high : ℕ) → AreNumbered low high c.alarms → AreByTime (due_alarms c)
-due_in_order c low high a = sorted_from low high [] (filter (is_due c.time) c.alarms) (numbered_filtered (is_due c.time) low high c.alarms a) tt
+pub due_in_order : (c : Clock) (low high : ℕ) → AreNumbered number_of low high c.alarms → AreByTime (due_alarms c)
+due_in_order c low high a = sorted_from low high [] (filter (is_due c.time) c.alarms) (numbered_filtered number_of (is_due c.time) low high c.alarms a) tt
     (All-nil (λ (x : Alarm). x.no < low))
 
 -- what holds of all alarms holds of them in order of time
@@ -171,7 +163,7 @@ put_or_not : (t : Bool) (y : Alarm) (acc ys : List Alarm) → fold inserted (con
 put_or_not true y acc ys = refl
 put_or_not false y acc ys = refl
 
-filtered_from : (p : Alarm → Bool) (low high : ℕ) (acc ys : List Alarm) → AreNumbered low high ys → AreByTime acc → AreBelow low acc
+filtered_from : (p : Alarm → Bool) (low high : ℕ) (acc ys : List Alarm) → AreNumbered number_of low high ys → AreByTime acc → AreBelow low acc
     → filter p (fold inserted acc ys) ≡ fold inserted (filter p acc) (filter p ys)
 filtered_from p low high acc [] n s l = refl
 filtered_from p low high acc (y ∷ ys) n s l =
@@ -180,5 +172,5 @@ filtered_from p low high acc (y ∷ ys) n s l =
     ∙ ap (λ zs. fold inserted zs (filter p ys)) (filtered_inserted p y acc s)
     ∙ put_or_not (p y) y (filter p acc) (filter p ys)
 
-pub filtered : (p : Alarm → Bool) (high : ℕ) (xs : List Alarm) → AreNumbered 0 high xs → filter p (by_time xs) ≡ by_time (filter p xs)
+pub filtered : (p : Alarm → Bool) (high : ℕ) (xs : List Alarm) → AreNumbered number_of 0 high xs → filter p (by_time xs) ≡ by_time (filter p xs)
 filtered p high xs n = filtered_from p 0 high [] xs n tt (All-nil (λ (x : Alarm). x.no < 0))

@@ -8,7 +8,8 @@ use Rattle.ak_base.specs.Lists.{first_of}
 use Rattle.ak_clock.specs.declared.alarm.Alarm.{Alarm}
 use Rattle.ak_clock.specs.Clock.{Clock, is_alarm, is_due, alarm_of, by_time, due_alarms, has_due}
 use Rattle.ak_clock.specs.Kept.{place_of}
-use Rattle.ak_clock.specs.Order.{AreNumbered, IsBefore, AreByTime}
+use Rattle.ak_base.specs.Numbers.{AreNumbered}
+use Rattle.ak_clock.specs.Order.{number_of, IsBefore, AreByTime}
 use Rattle.ak_clock.proofs.Numbered.{IsFound, each_found}
 use Rattle.ak_clock.proofs.Due.{all_by_time, sorted, filtered, has_due_same, is_not_later}
 
@@ -31,7 +32,7 @@ all_early now a alarms s l =
     (All-weaker (IsBefore a) (λ (b : Alarm). is_due now b ≡ false) (λ b q. le_false b.time now (omega (arith, ints, l, is_not_later a b q))) alarms s.0)
 
 -- the alarms that are due are the first ones in order of time
-pub due_first : (c : Clock) (high : ℕ) → AreNumbered 0 high c.alarms → due_alarms c ≡ filter (is_due c.time) (by_time c.alarms)
+pub due_first : (c : Clock) (high : ℕ) → AreNumbered number_of 0 high c.alarms → due_alarms c ≡ filter (is_due c.time) (by_time c.alarms)
 due_first c high n = sym (filtered (is_due c.time) high c.alarms n)
 
 -- what is said of the first alarm that is due, and of whether any is
@@ -50,7 +51,7 @@ same_place a place e = cc
 no_place : (place : ℤ × ℕ) → None ≡ Some place → ⊥
 no_place place e = cc
 
-due_by : (alarms : List Alarm) (c : Clock) (high : ℕ) (place : ℤ × ℕ) → by_time c.alarms ≡ alarms → AreNumbered 0 high c.alarms
+due_by : (alarms : List Alarm) (c : Clock) (high : ℕ) (place : ℤ × ℕ) → by_time c.alarms ≡ alarms → AreNumbered number_of 0 high c.alarms
     → slice_get (map place_of alarms) 0 ≡ Some place → place.0 ≤ℤ c.time → IsDueFirst place.1 c
 due_by [] c high place e n g l = absurd (no_place place g)
 due_by (a ∷ alarms) c high place e n g l =
@@ -62,11 +63,11 @@ due_by (a ∷ alarms) c high place e n g l =
     All-head (IsFound c.alarms) a alarms (subst (All (IsFound c.alarms)) e (all_by_time (IsFound c.alarms) c.alarms (each_found 0 high c.alarms n)))
     in (ap (λ (p : ℤ × ℕ). alarm_of p.1 c) (sym same) ∙ found ∙ sym front, sym (ap is_some front) ∙ has_due_same c)
 
-pub first_is_due : (c : Clock) (high : ℕ) (place : ℤ × ℕ) → AreNumbered 0 high c.alarms → slice_get (map place_of (by_time c.alarms)) 0 ≡ Some place
+pub first_is_due : (c : Clock) (high : ℕ) (place : ℤ × ℕ) → AreNumbered number_of 0 high c.alarms → slice_get (map place_of (by_time c.alarms)) 0 ≡ Some place
     → place.0 ≤ℤ c.time → IsDueFirst place.1 c
 first_is_due c high place = due_by (by_time c.alarms) c high place refl
 
-early_by : (alarms : List Alarm) (c : Clock) (high : ℕ) (place : ℤ × ℕ) → by_time c.alarms ≡ alarms → AreNumbered 0 high c.alarms
+early_by : (alarms : List Alarm) (c : Clock) (high : ℕ) (place : ℤ × ℕ) → by_time c.alarms ≡ alarms → AreNumbered number_of 0 high c.alarms
     → slice_get (map place_of alarms) 0 ≡ Some place → c.time <ℤ place.0 → NoneDue c
 early_by [] c high place e n g l = absurd (no_place place g)
 early_by (a ∷ alarms) c high place e n g l =
@@ -75,14 +76,14 @@ early_by (a ∷ alarms) c high place e n g l =
     in none_from c (due_first c high n ∙ ap (filter (is_due c.time)) e
     ∙ none_due c.time (a ∷ alarms) (all_early c.time a alarms (subst AreByTime e (sorted high c.alarms n)) later))
 
-pub first_is_early : (c : Clock) (high : ℕ) (place : ℤ × ℕ) → AreNumbered 0 high c.alarms
+pub first_is_early : (c : Clock) (high : ℕ) (place : ℤ × ℕ) → AreNumbered number_of 0 high c.alarms
     → slice_get (map place_of (by_time c.alarms)) 0 ≡ Some place → c.time <ℤ place.0 → NoneDue c
 first_is_early c high place = early_by (by_time c.alarms) c high place refl
 
-no_first_by : (alarms : List Alarm) (c : Clock) (high : ℕ) → by_time c.alarms ≡ alarms → AreNumbered 0 high c.alarms
+no_first_by : (alarms : List Alarm) (c : Clock) (high : ℕ) → by_time c.alarms ≡ alarms → AreNumbered number_of 0 high c.alarms
     → (0 < length (map place_of alarms) → ⊥) → NoneDue c
 no_first_by [] c high e n h = none_from c (due_first c high n ∙ ap (filter (is_due c.time)) e)
 no_first_by (a ∷ alarms) c high e n h = absurd (h (omega arith))
 
-pub no_first : (c : Clock) (high : ℕ) → AreNumbered 0 high c.alarms → (0 < length (map place_of (by_time c.alarms)) → ⊥) → NoneDue c
+pub no_first : (c : Clock) (high : ℕ) → AreNumbered number_of 0 high c.alarms → (0 < length (map place_of (by_time c.alarms)) → ⊥) → NoneDue c
 no_first c high = no_first_by (by_time c.alarms) c high refl

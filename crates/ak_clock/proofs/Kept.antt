@@ -16,9 +16,11 @@ use Rattle.std.proofs.lemmas.List.Sums.{fold-append}
 use Rattle.ak_clock.specs.declared.alarm.Alarm.{Alarm}
 use Rattle.ak_clock.specs.Clock.{Clock, is_alarm, is_other_alarm, insert_alarm, inserted, by_time}
 use Rattle.ak_clock.specs.Kept.{under_number, place_of, AreKept}
-use Rattle.ak_clock.specs.Order.{AreNumbered, IsBefore, AreByTime}
-use Rattle.ak_clock.proofs.Numbered.{IsFound, no_earlier, numbered_more, all_below, each_found, found_has}
-use Rattle.ak_clock.proofs.Due.{numbered_filtered, all_by_time, sorted, filtered}
+use Rattle.ak_base.specs.Numbers.{AreNumbered}
+use Rattle.ak_clock.specs.Order.{number_of, IsBefore, AreByTime}
+use Rattle.ak_base.proofs.Numbers.{no_earlier, numbered_more, numbered_filtered}
+use Rattle.ak_clock.proofs.Numbered.{IsFound, all_below, each_found, found_has}
+use Rattle.ak_clock.proofs.Due.{all_by_time, sorted, filtered}
 
 -- the clock of which the map has the alarms
 abbrev pub seen : ℤ → List (ℕ × Alarm) → ℕ → List ℕ → Clock
@@ -38,14 +40,14 @@ found_same e (a ∷ alarms) =
     ap (λ t. cond t (Some a) (lookup (is_at (nat_cmp e)) (map under_number alarms))) (number_test e a.no)
     ∙ ap (λ r. cond (a.no == e) (Some a) r) (found_same e alarms)
 
-out_by : (t : Bool) (low high e : ℕ) (a : Alarm) (alarms : List Alarm) → (a.no == e) ≡ t → AreNumbered low high (a ∷ alarms)
+out_by : (t : Bool) (low high e : ℕ) (a : Alarm) (alarms : List Alarm) → (a.no == e) ≡ t → AreNumbered number_of low high (a ∷ alarms)
     → remove_entry (is_at (nat_cmp e)) (map under_number alarms) ≡ map under_number (filter (is_other_alarm e) alarms)
     → cond t (map under_number alarms) (under_number a ∷ remove_entry (is_at (nat_cmp e)) (map under_number alarms)) ≡ map under_number
     (cond (not t) (a ∷ filter (is_other_alarm e) alarms) (filter (is_other_alarm e) alarms))
-out_by true low high e a alarms h n r = ap (map under_number) (sym (no_earlier (a.no + 1) high e alarms (omega (arith, eqb-true a.no e h)) n.2).1)
+out_by true low high e a alarms h n r = ap (map under_number) (sym (no_earlier number_of (a.no + 1) high e alarms (omega (arith, eqb-true a.no e h)) n.2).1)
 out_by false low high e a alarms h n r = ap (λ es. under_number a ∷ es) r
 
-out_of_map : (low high e : ℕ) (alarms : List Alarm) → AreNumbered low high alarms
+out_of_map : (low high e : ℕ) (alarms : List Alarm) → AreNumbered number_of low high alarms
     → remove_entry (is_at (nat_cmp e)) (map under_number alarms) ≡ map under_number (filter (is_other_alarm e) alarms)
 out_of_map low high e [] n = refl
 out_of_map low high e (a ∷ alarms) n =
@@ -185,7 +187,7 @@ one_there_by false a b alarms h f g = ap not (unequal (int_cmp a.time b.time) (n
 one_there : (a b : Alarm) (alarms : List Alarm) → IsFound alarms a → IsFound alarms b → is_elsewhere (place_of a) b ≡ is_other_alarm a.no b
 one_there a b alarms f g = one_there_by (b.no == a.no) a b alarms refl f g
 
-out_of_set : (high : ℕ) (a : Alarm) (alarms : List Alarm) → AreNumbered 0 high alarms → IsFound alarms a
+out_of_set : (high : ℕ) (a : Alarm) (alarms : List Alarm) → AreNumbered number_of 0 high alarms → IsFound alarms a
     → remove_key (is_at (place_cmp (place_of a))) (map place_of (by_time alarms)) ≡ map place_of (by_time (filter (is_other_alarm a.no) alarms))
 out_of_set high a alarms n f =
     let each : All (IsFound alarms) (by_time alarms) = all_by_time (IsFound alarms) alarms (each_found 0 high alarms n)
@@ -218,7 +220,7 @@ both_out next e a entries places k f =
     in let here : IsFound alarms a = ap (λ n. find (is_alarm n) alarms) no ∙ found
     in let left : values_of (remove_entry (is_at (nat_cmp e)) entries) ≡ filter (is_other_alarm e) alarms = values_out next e entries places k
     in (
-      subst (AreNumbered 0 next) (sym left) (numbered_filtered (is_other_alarm e) 0 next alarms k.0),
+      subst (AreNumbered number_of 0 next) (sym left) (numbered_filtered number_of (is_other_alarm e) 0 next alarms k.0),
       ap (remove_entry (is_at (nat_cmp e))) k.1 ∙ out_of_map 0 next e alarms k.0 ∙ ap (map under_number) (sym left),
       ap (λ n. remove_key (is_at (place_cmp (a.time, n))) places) (sym no)
           ∙ ap (remove_key (is_at (place_cmp (place_of a)))) k.2
@@ -238,7 +240,7 @@ pub kept_out : (next e : ℕ) (a : Alarm) (entries left : List (ℕ × Alarm)) (
 kept_out next e a entries left places places_left k f d g = kept_same next _ left _ places_left d g (both_out next e a entries places k f)
 
 -- the next alarm is put into the map, and its place into the set
-all_older : (next : ℕ) (a : Alarm) (alarms : List Alarm) → AreNumbered 0 next alarms → a.no ≡ next → All (λ (b : Alarm). b.no < a.no) alarms
+all_older : (next : ℕ) (a : Alarm) (alarms : List Alarm) → AreNumbered number_of 0 next alarms → a.no ≡ next → All (λ (b : Alarm). b.no < a.no) alarms
 all_older next a alarms n e = subst (λ (m : ℕ). All (λ (b : Alarm). b.no < m) alarms) (sym e) (all_below 0 next alarms n)
 
 entries_in : (next : ℕ) (a : Alarm) (entries : List (ℕ × Alarm)) (places : List (ℤ × ℕ)) → AreKept next entries places → a.no ≡ next
@@ -257,7 +259,7 @@ both_in next a entries places k e =
     in let more : values_of (insert_entry nat_cmp entries a.no a) ≡ alarms ++ a ∷ [] = values_in next a entries places k e
     in let older : All (λ (b : Alarm). b.no < a.no) alarms = all_older next a alarms k.0 e
     in (
-      subst (AreNumbered 0 (next + 1)) (sym more) (numbered_more 0 next alarms a (omega arith) e k.0),
+      subst (AreNumbered number_of 0 (next + 1)) (sym more) (numbered_more number_of 0 next alarms a (omega arith) e k.0),
       entries_in next a entries places k e ∙ ap (map under_number) (sym more),
       ap (λ ps. insert_key place_cmp ps (place_of a)) k.2
           ∙ into_set a (by_time alarms) (all_by_time (λ (b : Alarm). b.no < a.no) alarms older)
@@ -278,7 +280,7 @@ entries_back next a entries places k e =
     All-weaker (λ (b : Alarm). b.no < a.no) (λ (b : Alarm). is_other_alarm a.no b ≡ true)
     (λ b l. ap not (ne_eqb b.no a.no (λ h. omega (arith, h, l)))) alarms (all_older next a alarms k.0 e)
     in ap (remove_entry (is_at (nat_cmp a.no))) (entries_in next a entries places k e)
-    ∙ out_of_map 0 (next + 1) a.no (alarms ++ a ∷ []) (numbered_more 0 next alarms a (omega arith) e k.0)
+    ∙ out_of_map 0 (next + 1) a.no (alarms ++ a ∷ []) (numbered_more number_of 0 next alarms a (omega arith) e k.0)
     ∙ ap (map under_number)
     (filter-append (is_other_alarm a.no) alarms (a ∷ [])
     ∙ ap (λ xs. xs ++ filter (is_other_alarm a.no) (a ∷ [])) (all_kept (is_other_alarm a.no) alarms others)

@@ -1,39 +1,25 @@
 -- The alarm of a number, in a list in order of numbers.
-use Rattle.std.proofs.Common.{ℕ, ◌+◌, ◌<◌, ◌≤◌, ◌≡◌, List, [], ◌∷◌, ◌++◌, get_or, refl, ap, sym, ◌∙◌, subst, Bool, true, false, cond, arith}
+use Rattle.std.proofs.Common.{ℕ, ◌+◌, ◌<◌, ◌≤◌, ◌≡◌, List, [], ◌∷◌, get_or, refl, ap, sym, ◌∙◌, subst, Bool, true, false, cond, arith}
 use Rattle.std.specs.Prelude.{not, ◌==◌, filter, find, Some, None}
 use Rattle.std.specs.List.{All}
 use Rattle.std.proofs.lemmas.Bool.{eq-eqb, ne_eqb, eqb-true}
 use Rattle.std.proofs.lemmas.List.Elements.{All-nil, All-cons, All-weaker}
 use Rattle.ak_clock.specs.declared.alarm.Alarm.{Alarm}
 use Rattle.ak_clock.specs.Clock.{Clock, alarm_of, without_alarm, is_alarm, is_other_alarm}
-use Rattle.ak_clock.specs.Order.{AreNumbered}
-
--- a later number stands nowhere before it
-pub no_earlier : (low high e : ℕ) (xs : List Alarm) → e < low → AreNumbered low high xs → (find (is_alarm e) xs ≡ None) × (filter (is_other_alarm e) xs ≡ xs)
-no_earlier low high e [] l a = (refl, refl)
-no_earlier low high e (x ∷ xs) l a =
-    let other : (x.no == e) ≡ false = ne_eqb x.no e (λ h. omega (arith, h, l, a.0))
-    in let rest = no_earlier (x.no + 1) high e xs (omega (arith, l, a.0)) a.2
-    in (
-      ap (λ t. cond t (Some x) (find (is_alarm e) xs)) other ∙ rest.0,
-      ap (λ t. cond (not t) (x ∷ filter (is_other_alarm e) xs) (filter (is_other_alarm e) xs)) other ∙ ap (λ r. x ∷ r) rest.1,
-    )
+use Rattle.ak_base.specs.Numbers.{AreNumbered}
+use Rattle.ak_clock.specs.Order.{number_of}
 
 some_none : (x : Alarm) → Some x ≡ None → ⊥
 some_none x e = cc
 
-pub lowered : (lower low high : ℕ) (xs : List Alarm) → lower ≤ low → AreNumbered low high xs → AreNumbered lower high xs
-lowered lower low high [] m a = tt
-lowered lower low high (x ∷ xs) m a = (omega (arith, m, a.0), a.1, a.2)
-
 -- the bounds of all numbers
-pub all_from : (low high : ℕ) (xs : List Alarm) → AreNumbered low high xs → All (λ (x : Alarm). low ≤ x.no) xs
+pub all_from : (low high : ℕ) (xs : List Alarm) → AreNumbered number_of low high xs → All (λ (x : Alarm). low ≤ x.no) xs
 all_from low high [] a = All-nil (λ (x : Alarm). low ≤ x.no)
 all_from low high (x ∷ xs) a =
     All-cons (λ (y : Alarm). low ≤ y.no) x xs a.0
     (All-weaker (λ (y : Alarm). x.no + 1 ≤ y.no) (λ (y : Alarm). low ≤ y.no) (λ y l. omega (arith, l, a.0)) xs (all_from (x.no + 1) high xs a.2))
 
-pub all_below : (low high : ℕ) (xs : List Alarm) → AreNumbered low high xs → All (λ (x : Alarm). x.no < high) xs
+pub all_below : (low high : ℕ) (xs : List Alarm) → AreNumbered number_of low high xs → All (λ (x : Alarm). x.no < high) xs
 all_below low high [] a = All-nil (λ (x : Alarm). x.no < high)
 all_below low high (x ∷ xs) a = All-cons (λ (y : Alarm). y.no < high) x xs a.1 (all_below (x.no + 1) high xs a.2)
 
@@ -41,7 +27,7 @@ all_below low high (x ∷ xs) a = All-cons (λ (y : Alarm). y.no < high) x xs a.
 abbrev pub IsFound : List Alarm → Alarm → Type 0
 IsFound xs x = find (is_alarm x.no) xs ≡ Some x
 
-pub each_found : (low high : ℕ) (xs : List Alarm) → AreNumbered low high xs → All (IsFound xs) xs
+pub each_found : (low high : ℕ) (xs : List Alarm) → AreNumbered number_of low high xs → All (IsFound xs) xs
 each_found low high [] a = All-nil (IsFound [])
 each_found low high (x ∷ xs) a =
     All-cons (IsFound (x ∷ xs)) x xs
@@ -74,15 +60,6 @@ none_out_by false e x xs h f r =
 pub none_out : (e : ℕ) (xs : List Alarm) → find (is_alarm e) xs ≡ None → filter (is_other_alarm e) xs ≡ xs
 none_out e [] f = refl
 none_out e (x ∷ xs) f = none_out_by (x.no == e) e x xs refl f (none_out e xs)
-
--- one more alarm, under the next number
-pub numbered_more : (low high : ℕ) (xs : List Alarm) (x : Alarm) → low ≤ high → x.no ≡ high → AreNumbered low high xs
-    → AreNumbered low (high + 1) (xs ++ x ∷ [])
-numbered_more low high [] x m e a = (omega (arith, m, e), omega (arith, e), tt)
-numbered_more low high (y ∷ ys) x m e a = (a.0, omega (arith, a.1), numbered_more (y.no + 1) high ys x (omega (arith, a.1)) e a.2)
-
-pub numbered_last : (high : ℕ) (xs ys : List Alarm) (x : Alarm) → x.no ≡ high → ys ≡ xs ++ x ∷ [] → AreNumbered 0 high xs → AreNumbered 0 (high + 1) ys
-numbered_last high xs ys x e f a = subst (λ (zs : List Alarm). AreNumbered 0 (high + 1) zs) (sym f) (numbered_more 0 high xs x (omega arith) e a)
 
 pub none_pending : (e : ℕ) (c : Clock) → alarm_of e c ≡ None → without_alarm e c ≡ c
 none_pending e c f = ap (λ alarms. record { time = c.time; alarms = alarms; next = c.next; yields = c.yields }) (none_out e c.alarms f)

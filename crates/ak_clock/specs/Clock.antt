@@ -1,6 +1,7 @@
 -- The clock, its pending alarms and the pending yields. From Async's documentation of `Clock` and `yield` in outline; that
 -- the clock moves only by the script is own.
-use Rattle.std.specs.Prelude.{ℕ, ℤ, pos, negsuc, ◌+◌, ◌^◌, nat_lt, Result, Ok, Err, List, [], ◌∷◌, ◌++◌, Bool, not, ◌==◌, Option, Some, None, fold, filter, find, if◌then◌else◌, int_le, int_lt}
+use Rattle.std.specs.Prelude.{ℕ, ℤ, pos, ◌+◌, Result, Ok, Err, List, [], ◌∷◌, ◌++◌, Bool, not, ◌==◌, Option, Some, None, fold, filter, find, if◌then◌else◌, int_le, int_lt}
+use Rattle.ak_base.specs.Numbers.{fits}
 use Rattle.ak_base.specs.Lists.{first_of, rest_of, is_empty_list}
 use Rattle.ak_clock.specs.declared.alarm.Alarm.{Alarm}
 use Rattle.ak_clock.specs.declared.alarm.AfterRefused.{AfterRefused}
@@ -41,7 +42,7 @@ alarm_of e c = find (is_alarm e) c.alarms
 abbrev pub without_alarm : ℕ → Clock → Clock
 without_alarm e c = record c { alarms = filter (is_other_alarm e) c.alarms }
 
--- it is later
+-- the clock has another time
 abbrev pub set_to : ℤ → Clock → Clock
 set_to time c = record c { time = time }
 
@@ -104,11 +105,6 @@ yield_taken c = record c { yields = rest_of c.yields }
 -- whether a deferred waits for the next cycle
 abbrev pub has_yield : Clock → Bool
 has_yield c = not (is_empty_list c.yields)
-
--- whether a time has 64 bits
-abbrev pub fits : ℤ → Bool
-fits (pos n) = nat_lt n (2 ^ 63)
-fits (negsuc n) = nat_lt n (2 ^ 63)
 
 -- why an alarm at a time is not set
 abbrev pub after_refusal : ℤ → AfterRefused

@@ -1,12 +1,11 @@
 -- Alarms in order.
-use Rattle.std.specs.Prelude.{ℕ, ◌≡◌, ◌+◌, ◌<◌, ◌≤◌, ◌<ℤ◌, ◌⊎◌, List, [], ◌∷◌}
+use Rattle.std.specs.Prelude.{ℕ, ◌≡◌, ◌<◌, ◌<ℤ◌, ◌⊎◌, List, [], ◌∷◌}
 use Rattle.std.specs.List.{All}
 use Rattle.ak_clock.specs.declared.alarm.Alarm.{Alarm}
 
--- pending alarms in order of their numbers, from one on and below another
-abbrev pub AreNumbered : ℕ → ℕ → List Alarm → Type 0
-AreNumbered low high [] = Unit
-AreNumbered low high (a ∷ alarms) = (low ≤ a.no) × (a.no < high) × AreNumbered (a.no + 1) high alarms
+-- the number of an alarm: those that are pending stand in order of it
+abbrev pub number_of : Alarm → ℕ
+number_of alarm = alarm.no
 
 -- an alarm comes before another: its time is less, or its number where the times are equal
 abbrev pub IsBefore : Alarm → Alarm → Type 0

@@ -1,6 +1,7 @@
 //! The clock of a run.
 
 ghost use Rattle.std.specs.Prelude.{ℤ, ◌≡◌, ◌+◌, ◌-◌, ◌<◌, ◌≤ℤ◌, ◌+ℤ◌, ◌^◌, pos, false, None, Err, OnOk, OnErr, IfOk, IfErr, MatchOption, is_some};
+ghost use Rattle.ak_base.specs.Numbers.{fits};
 ghost use Rattle.ak_base.specs.Lists.{first_of};
 ghost use Rattle.ak_clock.specs.Clock as plain;
 ghost use Rattle.ak_clock.specs.Order.{AreByTime};
@@ -73,7 +74,7 @@ impl Clock {
         ensures ok { OnOk result (self.new ≡ plain.with_alarm (self.old.time +ℤ n) i self.old) }
         ensures refused { IfErr result (λ r. r ≡ plain.after_refusal (self.old.time +ℤ n)) }
         ensures err { OnErr result (self.new ≡ self.old) }
-        ensures overflow { plain.fits (self.old.time +ℤ n) ≡ false → result ≡ Err AfterRefused.Overflow }
+        ensures overflow { fits (self.old.time +ℤ n) ≡ false → result ≡ Err AfterRefused.Overflow }
     {
         match self.time.checked_add(n) {
             Some(time) => self.set(i, time),

@@ -5,12 +5,13 @@ ghost use Rattle.std.specs.List.{count_by};
 ghost use Rattle.ak_clock.specs.declared.alarm.Alarm.{Alarm};
 ghost use Rattle.ak_clock.specs.Calls.{DueGives, YieldsGiven, due_ivars};
 ghost use Rattle.ak_clock.specs.Clock.{Clock, is_due, due_alarms, alarm_of, without_alarm, without_due, without_yields};
-ghost use Rattle.ak_clock.specs.Order.{AreNumbered, AreByTime};
+ghost use Rattle.ak_base.specs.Numbers.{AreNumbered};
+ghost use Rattle.ak_clock.specs.Order.{number_of, AreByTime};
 
 /// The alarms that are due come in order of time, and of number where the times are equal.
 #[tactic(auto, using(crate::proofs::Due::due_in_order))]
 pub fn due_alarms_come_in_order()
-    ensures { (c : Clock) (low high : ℕ) → AreNumbered low high c.alarms → AreByTime (due_alarms c) }
+    ensures { (c : Clock) (low high : ℕ) → AreNumbered number_of low high c.alarms → AreByTime (due_alarms c) }
 {}
 
 /// The alarms that are due are those pending ones whose time has come, each as often: as many of them pass any test.
@@ -29,7 +30,7 @@ pub fn abort_of_none_changes_nothing()
 /// then of number, and leave the others: what a cycle takes at once as it begins.
 #[tactic(auto, using(crate::proofs::Calls::due_exactly))]
 pub fn due_one_at_a_time_gives_all_that_are_due()
-    ensures { (ivars : List ℕ) (c after : Clock) (high : ℕ) → AreNumbered 0 high c.alarms
+    ensures { (ivars : List ℕ) (c after : Clock) (high : ℕ) → AreNumbered number_of 0 high c.alarms
         → DueGives ivars c after ↔ ((ivars ≡ due_ivars c) × (after ≡ without_due c)) }
 {}
 

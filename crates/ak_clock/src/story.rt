@@ -1,9 +1,10 @@
 //! A small story that is worked by hand. The bodies are empty: each contract is what the calls must do.
 
 ghost use Rattle.std.specs.Prelude.{◌≡◌, pos, negsuc, Some, None, Ok, Err, true, false};
+ghost use Rattle.ak_base.specs.Numbers.{fits};
 ghost use Rattle.ak_base.specs.Lists.{first_of};
 ghost use Rattle.ak_clock.specs.declared.alarm.TickRefused.TheVariants.{Negative, Overflow};
-ghost use Rattle.ak_clock.specs.Clock.{alarm_of, ivar_of, due_alarms, due_taken, has_due, fits, set_to, ticked};
+ghost use Rattle.ak_clock.specs.Clock.{alarm_of, ivar_of, due_alarms, due_taken, has_due, set_to, ticked};
 ghost use Rattle.ak_clock.specs.Story.{three_alarms, one_aborted, at_five};
 
 /// An alarm is aborted once.

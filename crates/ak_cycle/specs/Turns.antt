@@ -4,9 +4,9 @@ use Rattle.std.specs.List.{filter_map}
 use Rattle.ak_labor.specs.declared.ask.Ask.{Ask}
 use Rattle.ak_labor.specs.declared.ask.Ask.TheVariants as ask
 use Rattle.ak_labor.specs.Calls.{Reply, IsOpen}
-use Rattle.ak_labor.specs.Waits.{handed_by}
+use Rattle.ak_labor.specs.Waits.{handed_by, answered_by, left_after}
 use Rattle.ak_rings.specs.Queues.{pick_of, has_pick}
-use Rattle.ak_machine.specs.declared.config.Config.{Config}
+use Rattle.ak_labor.specs.declared.config.Config.{Config}
 use Rattle.ak_machine.specs.Run.{Machine, AtDrain, AtClose, Wants, ran_to, picked, machine_after}
 use Rattle.ak_machine.specs.Status.{Stat, Well, ByError, AtJobLimit, Stuck, Unfinished, status_of}
 use Rattle.ak_program.specs.Programs.{NumProgram}
@@ -28,7 +28,7 @@ goes_to false w asked = at_close w asked
 -- the machine after a drain that brought nothing
 abbrev pub drained_with : Worldly → List Ask → Machine
 drained_with w asked =
-    picked w.program.procs w.config (pick_of w.plain.queues) w.plain
+    picked w.program w.config (pick_of w.plain.queues) w.plain
     (record { state = w.plain; ran = w.ran; asks = asked; waits = []; place = AtDrain })
 
 -- the machine made one call more than these and wants its reply, and waited for nothing
@@ -65,13 +65,16 @@ pub record IsTurned (old : Worldly) (on : Bool) (new : Worldly) : Type 0 where
   pub free : new.picked ≡ None
 
 -- a run under way over a port: the machine on the port's replies drains next, or closes next where the run doesn't go on, and the
--- port was asked and replied what the machine asks; no work was handed in
+-- port was asked and replied what the machine asks; no work was handed in, no asker is left, and no answer was told
 pub record IsAt (on : Bool) (program : NumProgram) (config : Config) (w : Worldly) (asked : List Ask) (replies : List Reply) (waits : List ℕ) : Type 0 where
   pub free : w.picked ≡ None
   pub program_is : w.program ≡ program
   pub config_is : w.config ≡ config
-  pub machine : machine_after program.procs program.main config replies ≡ goes_to on w asked
+  pub machine : machine_after program config replies ≡ goes_to on w asked
   pub finished : on ≡ false → IsFinished (status_of w.plain.trace)
   pub opened : IsOpen asked replies
   pub no_work : filter_map handed_by asked ≡ []
+  pub no_answer : filter_map answered_by asked ≡ []
+  pub no_askers : config.askers ≡ 0
+  pub none_left : left_after config.askers replies ≡ 0
   pub no_wait : waits ≡ []

@@ -3,8 +3,9 @@
 ghost use Rattle.std.specs.Prelude.{◌≡◌, ◌≤◌, ◌<◌, [], true, IfOk, OnOk};
 ghost use Rattle.std.specs.List.{filter_map};
 ghost use Rattle.ak_labor.specs.declared.ask.Ask.TheVariants as ask;
-ghost use Rattle.ak_labor.specs.Calls.{IsAsked, IsOpen, IsFault, Pairs};
-ghost use Rattle.ak_labor.specs.Waits.{handed_by, outstanding};
+ghost use Rattle.ak_labor.specs.Calls.{IsAsked, IsOpen, IsFault, Drained};
+ghost use Rattle.ak_labor.specs.Arrived.{nothing_arrived};
+ghost use Rattle.ak_labor.specs.Waits.{handed_by, answered_by, outstanding, left_after};
 ghost use Rattle.ak_machine.specs.Run.{run_of};
 ghost use Rattle.ak_machine.specs.Status.{status_of};
 ghost use Rattle.ak_program.specs.Programs.{NumProgram};
@@ -14,22 +15,22 @@ ghost use Rattle.ak_cycle.specs.Runs.{HasEndedWith, WantsLast, WantsNext, IsNoMe
 ghost use Rattle.ak_cycle.specs.Turns.{IsAt, IsFinished, turns_left};
 
 use crate::turn::advance;
-use ak_exec::world::{World, begin_cycle, trace};
+use ak_exec::world::{World, begin_cycle, set_left, trace};
+use ak_labor::config::Config;
 use ak_labor::port::{Port, PortError};
 use ak_labor::work::Arrivals;
 use ak_laws::law::obeys_laws;
-use ak_machine::config::Config;
 use ak_program::program::Program;
 use ak_trace::entry::Trace;
 use std::alloc::Global;
 
 /// Runs a program, whose statements are built, on the scheduler, with a port as its pool: one of so many threads as
 /// the settings say, which was asked nothing yet. At most `config.limit` jobs of a priority run in a cycle, which is
-/// at least 1. Own; after Async's scheduler in outline.
+/// at least 1. There are no askers: requests from outside are not built yet. Own; after Async's scheduler in outline.
 ///
 /// On `Ok` the trace is the machine's for the port's replies, the machine has ended, and what the port was asked is
-/// what the machine asks, with its waits; the last call is the close. Where the trace ends idle, a reply has brought each work that was handed in.
-/// The trace obeys the laws of traces that are proved.
+/// what the machine asks, with its waits; the last call is the close. Where the trace ends idle, a reply has brought
+/// each work that was handed in. The trace obeys the laws of traces that are proved.
 ///
 /// # Errors
 ///
@@ -46,17 +47,24 @@ pub fn run<P: Port>(
     requires built { AreBuilt program.procs }
     requires limit { 1 ≤ config.limit }
     requires threads { config.threads ≡ P.threads port.old }
+    requires askers { config.askers ≡ P.askers port.old }
+    requires no_askers { config.askers ≡ 0 }
     requires asked { P.asked port.old ≡ [] }
     requires replied { P.replies port.old ≡ [] }
     requires waited { P.waits port.old ≡ [] }
-    ensures ended { IfOk result (λ trace. HasEndedWith (run_of program.procs program.main config (P.replies port.new)) trace (P.asked port.new) (P.waits port.new)) }
+    ensures ended { IfOk result (λ trace.
+        HasEndedWith (run_of program config (P.replies port.new)) trace (P.asked port.new) (P.waits port.new)) }
     ensures finished { IfOk result (λ trace. IsFinished (status_of trace)) }
-    ensures idle { IfOk result (λ trace. EndsIdle trace → outstanding (P.asked port.new) (P.replies port.new) ≡ []) }
+    ensures idle { IfOk result (λ trace.
+        EndsIdle trace → outstanding (P.asked port.new) (P.replies port.new) ≡ []) }
     ensures laws { IfOk result (λ trace. ObeysLaws config.limit trace) }
     ensures closed { OnOk result (EndsClosed (P.asked port.new)) }
     ensures threads { P.threads port.new ≡ P.threads port.old }
-    ensures fault { IsFault result → WantsLast (run_of program.procs program.main config (P.replies port.new)) (P.asked port.new) (P.replies port.new) (P.waits port.new) }
-    ensures memory { IsNoMemory result → WantsNext (run_of program.procs program.main config (P.replies port.new)) (P.asked port.new) (P.replies port.new) (P.waits port.new) }
+    ensures askers { P.askers port.new ≡ P.askers port.old }
+    ensures fault { IsFault result → WantsLast (run_of program config (P.replies port.new))
+        (P.asked port.new) (P.replies port.new) (P.waits port.new) }
+    ensures memory { IsNoMemory result → WantsNext (run_of program config (P.replies port.new))
+        (P.asked port.new) (P.replies port.new) (P.waits port.new) }
 {
     // For the proof alone: the program is sound, and so its runs obey the laws.
     let _main = program.main();
@@ -77,27 +85,41 @@ fn turn<P: Port>(
     world: &mut World,
     port: &mut P,
 ) -> Result<bool, PortError<P::Fault>>
-    requires { IsAt true world.old.program world.old.config world.old (P.asked port.old) (P.replies port.old) (P.waits port.old) }
-    ensures at { IfOk result (λ on. IsAt on world.old.program world.old.config world.new (P.asked port.new) (P.replies port.new) (P.waits port.new)) }
+    requires at { IsAt true world.old.program world.old.config world.old
+        (P.asked port.old) (P.replies port.old) (P.waits port.old) }
+    requires askers { world.old.config.askers ≡ P.askers port.old }
+    ensures at { IfOk result (λ on. IsAt on world.old.program world.old.config world.new
+        (P.asked port.new) (P.replies port.new) (P.waits port.new)) }
     ensures left { IfOk result (λ on. on ≡ true → turns_left world.new < turns_left world.old) }
     ensures threads { P.threads port.new ≡ P.threads port.old }
-    ensures fault { IsFault result → WantsLast (run_of world.old.program.procs world.old.program.main world.old.config (P.replies port.new)) (P.asked port.new) (P.replies port.new) (P.waits port.new) }
-    ensures memory { IsNoMemory result → WantsNext (run_of world.old.program.procs world.old.program.main world.old.config (P.replies port.new)) (P.asked port.new) (P.replies port.new) (P.waits port.new) }
+    ensures askers { P.askers port.new ≡ P.askers port.old }
+    ensures fault { IsFault result → WantsLast
+        (run_of world.old.program world.old.config (P.replies port.new))
+        (P.asked port.new) (P.replies port.new) (P.waits port.new) }
+    ensures memory { IsNoMemory result
+        → WantsNext (run_of world.old.program world.old.config (P.replies port.new))
+        (P.asked port.new) (P.replies port.new) (P.waits port.new) }
 {
-    fetch(alloc, port)?;
+    let arrivals = fetch(alloc, port)?;
+    set_left(world, arrivals.left());
     let on = advance(world)?;
     Ok(on)
 }
 
-// Drains a port to which no work was handed in.
-fn fetch<P: Port>(alloc: Global, port: &mut P) -> Result<(), PortError<P::Fault>>
+// Drains a port to which no work was handed in and which was told no answer, while no asker is left.
+fn fetch<P: Port>(alloc: Global, port: &mut P) -> Result<Arrivals, PortError<P::Fault>>
     requires open { IsOpen (P.asked port.old) (P.replies port.old) }
-    requires none { filter_map handed_by (P.asked port.old) ≡ [] }
-    ensures asked { IsAsked ask.Drain (λ _. Pairs []) (P.asked port.old) (P.asked port.new) (P.replies port.old) (P.replies port.new) result }
+    requires no_work { filter_map handed_by (P.asked port.old) ≡ [] }
+    requires no_answer { filter_map answered_by (P.asked port.old) ≡ [] }
+    requires none_left { left_after (P.askers port.old) (P.replies port.old) ≡ 0 }
+    ensures nothing { IfOk result (λ arrivals. arrivals ≡ nothing_arrived) }
+    ensures asked { IsAsked ask.Drain (λ _. Drained nothing_arrived)
+        (P.asked port.old) (P.asked port.new) (P.replies port.old) (P.replies port.new) result }
     ensures waits { P.waits port.new ≡ P.waits port.old }
     ensures threads { P.threads port.new ≡ P.threads port.old }
+    ensures askers { P.askers port.new ≡ P.askers port.old }
 {
     let mut arrivals = Arrivals::make(alloc);
     port.drain(&mut arrivals)?;
-    Ok(())
+    Ok(arrivals)
 }

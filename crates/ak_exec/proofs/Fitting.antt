@@ -5,6 +5,7 @@ use Rattle.std.specs.List.{AllByRecursion, slice_get}
 use Rattle.std.proofs.lemmas.List.{length-append}
 use Rattle.std.proofs.Math.ListN.{length-set}
 use Rattle.ak_base.specs.declared.number.Ctx.{Ctx}
+use Rattle.ak_base.proofs.Lists.{all_push}
 use Rattle.ak_script.specs.declared.script.Kind.{Kind}
 use Rattle.ak_script.specs.declared.script.Kind.TheVariants.{Num, Ivar, Def}
 use Rattle.ak_rings.specs.declared.job.Job.{Job}
@@ -34,17 +35,14 @@ use Rattle.ak_exec.specs.Fits.{ValueFits, ValsFit, kinds_of, RetFits, FrameFits,
 use Rattle.ak_exec.proofs.Values.{vals_grow}
 
 -- ---- lists
-all_map : {A B : Type 0} (P : A → Type 0) (Q : B → Type 0) (f : A → B) (h : (x : A) → P x → Q (f x)) (xs : List A) → AllByRecursion P xs → AllByRecursion Q (map f xs)
+all_map : {A B : Type 0} (P : A → Type 0) (Q : B → Type 0) (f : A → B) (h : (x : A) → P x → Q (f x)) (xs : List A) → AllByRecursion P xs
+    → AllByRecursion Q (map f xs)
 all_map P Q f h [] p = tt
 all_map P Q f h (x ∷ xs) p = (h x p.0, all_map P Q f h xs p.1)
 
 all_by : {A : Type 0} (P Q : A → Type 0) (h : (x : A) → P x → Q x) (xs : List A) → AllByRecursion P xs → AllByRecursion Q xs
 all_by P Q h [] p = tt
 all_by P Q h (x ∷ xs) p = (h x p.0, all_by P Q h xs p.1)
-
-all_push : {A : Type 0} (P : A → Type 0) (xs : List A) (x : A) → AllByRecursion P xs → P x → AllByRecursion P (xs ++ x ∷ [])
-all_push P [] x p q = (q, tt)
-all_push P (y ∷ ys) x p q = (p.0, all_push P ys x p.1 q)
 
 all_filter : {A : Type 0} (P : A → Type 0) (p : A → Bool) (xs : List A) → AllByRecursion P xs → AllByRecursion P (filter p xs)
 all_filter P p [] h = tt
@@ -60,7 +58,8 @@ ret_grows n n' Drop h f = tt
 ret_grows n n' (To i) h f = omega (arith, h, f)
 ret_grows n n' r h f = absurd f
 
-call_grows : (o : Option NumProc) (n n' : ℕ) (vals : List Value) → n ≤ n' → MatchOption o ⊥ (λ (p : NumProc). ValsFit n (kinds_of p.params) vals) → MatchOption o ⊥ (λ (p : NumProc). ValsFit n' (kinds_of p.params) vals)
+call_grows : (o : Option NumProc) (n n' : ℕ) (vals : List Value) → n ≤ n' → MatchOption o ⊥ (λ (p : NumProc). ValsFit n (kinds_of p.params) vals)
+    → MatchOption o ⊥ (λ (p : NumProc). ValsFit n' (kinds_of p.params) vals)
 call_grows None n n' vals h f = absurd f
 call_grows (Some p) n n' vals h f = vals_grow n n' (kinds_of p.params) vals h f
 
@@ -83,13 +82,16 @@ value_mapped_fits g n h Ivar v f = absurd f
 value_mapped_fits g n h Def v f = absurd f
 value_mapped_fits g n h kind v f = absurd f
 
-vals_mapped_fit : (g : ℕ → ℕ) (n : ℕ) → ((i : ℕ) → i < n → g i < n) → (kinds : List Kind) (vals : List Value) → ValsFit n kinds vals → ValsFit n kinds (values_mapped g vals)
+vals_mapped_fit : (g : ℕ → ℕ) (n : ℕ) → ((i : ℕ) → i < n → g i < n) → (kinds : List Kind) (vals : List Value) → ValsFit n kinds vals
+    → ValsFit n kinds (values_mapped g vals)
 vals_mapped_fit g n h [] [] f = tt
 vals_mapped_fit g n h (kind ∷ kinds) (v ∷ vals) f = (value_mapped_fits g n h kind v f.0, vals_mapped_fit g n h kinds vals f.1)
 vals_mapped_fit g n h [] (v ∷ vals) f = absurd f
 vals_mapped_fit g n h (kind ∷ kinds) [] f = absurd f
 
-call_mapped_fits : (o : Option NumProc) (g : ℕ → ℕ) (n : ℕ) → ((i : ℕ) → i < n → g i < n) → (vals : List Value) → MatchOption o ⊥ (λ (p : NumProc). ValsFit n (kinds_of p.params) vals) → MatchOption o ⊥ (λ (p : NumProc). ValsFit n (kinds_of p.params) (values_mapped g vals))
+call_mapped_fits : (o : Option NumProc) (g : ℕ → ℕ) (n : ℕ) → ((i : ℕ) → i < n → g i < n) → (vals : List Value)
+    → MatchOption o ⊥ (λ (p : NumProc). ValsFit n (kinds_of p.params) vals)
+    → MatchOption o ⊥ (λ (p : NumProc). ValsFit n (kinds_of p.params) (values_mapped g vals))
 call_mapped_fits None g n h vals f = absurd f
 call_mapped_fits (Some p) g n h vals f = vals_mapped_fit g n h (kinds_of p.params) vals f
 
@@ -98,12 +100,15 @@ ret_mapped_fits g n h Drop f = tt
 ret_mapped_fits g n h (To i) f = h i f
 ret_mapped_fits g n h r f = absurd f
 
-frame_mapped_fits : (program : List NumProc) (g : ℕ → ℕ) (n : ℕ) → ((i : ℕ) → i < n → g i < n) → (frame : Frame) → FrameFits program n frame → FrameFits program n (frame_mapped g frame)
+frame_mapped_fits : (program : List NumProc) (g : ℕ → ℕ) (n : ℕ) → ((i : ℕ) → i < n → g i < n) → (frame : Frame) → FrameFits program n frame
+    → FrameFits program n (frame_mapped g frame)
 frame_mapped_fits program g n h (Call proc vals ret) f = (call_mapped_fits (slice_get program proc) g n h vals f.0, ret_mapped_fits g n h ret f.1)
-frame_mapped_fits program g n h (OnValue proc vals ret) f = (call_mapped_fits (slice_get program proc) g n h (value.Num (pos 0) ∷ vals) f.0, ret_mapped_fits g n h ret f.1)
+frame_mapped_fits program g n h (OnValue proc vals ret) f =
+    (call_mapped_fits (slice_get program proc) g n h (value.Num (pos 0) ∷ vals) f.0, ret_mapped_fits g n h ret f.1)
 frame_mapped_fits program g n h frame f = absurd f
 
-held_mapped : (program : List NumProc) (g : ℕ → ℕ) (n : ℕ) → ((i : ℕ) → i < n → g i < n) → (ctx : Ctx) (frame : Frame) → HeldFits program n ctx frame → HeldFits program n ctx (frame_mapped g frame)
+held_mapped : (program : List NumProc) (g : ℕ → ℕ) (n : ℕ) → ((i : ℕ) → i < n → g i < n) → (ctx : Ctx) (frame : Frame) → HeldFits program n ctx frame
+    → HeldFits program n ctx (frame_mapped g frame)
 held_mapped program g n h ctx frame f = record { root = f.root; frame_fits = frame_mapped_fits program g n h frame f.frame_fits }
 
 -- ---- the changes of a state
@@ -114,19 +119,33 @@ grown_fits program n n' s h f = record {
   low = all_by (JobFits program n) (JobFits program n') (λ job. held_grows program n n' h job.ctx job.frame.frame) s.queues.low f.low;
 }
 
-job_pushed : (program : List NumProc) (n : ℕ) (b : Bool) (job : Job Task) (q : Queues Task) (s : State) → StateFits program n (record s { queues = q }) → JobFits program n job → (e : Entry) →
-    StateFits program n (noting e (record s { queues = cond b (record q { low = q.low ++ job ∷ []; next = q.next + 1 }) (record q { normal = q.normal ++ job ∷ []; next = q.next + 1 }) }))
+job_pushed : (program : List NumProc) (n : ℕ) (b : Bool) (job : Job Task) (q : Queues Task) (s : State)
+    → StateFits program n (record s { queues = q }) → JobFits program n job → (e : Entry) →
+    StateFits program n (noting e (record s {
+      queues = cond b (record q { low = q.low ++ job ∷ []; next = q.next + 1 })
+          (record q { normal = q.normal ++ job ∷ []; next = q.next + 1 });
+    }))
 job_pushed program n true job q s f p e = record { handlers = f.handlers; normal = f.normal; low = all_push (JobFits program n) q.low job f.low p }
 job_pushed program n false job q s f p e = record { handlers = f.handlers; normal = all_push (JobFits program n) q.normal job f.normal p; low = f.low }
 
-pub enqueue_fits : (program : List NumProc) (n : ℕ) (ctx : Ctx) (task : Task) (s : State) → StateFits program n s → HeldFits program n ctx task.frame → StateFits program n (enqueue ctx task s)
-enqueue_fits program n ctx task s f p = job_pushed program n ctx.low (record { no = s.queues.next; ctx = ctx; frame = task }) s.queues s f p (entry.Enq s.queues.next ctx.low)
+pub enqueue_fits : (program : List NumProc) (n : ℕ) (ctx : Ctx) (task : Task) (s : State) → StateFits program n s → HeldFits program n ctx task.frame
+    → StateFits program n (enqueue ctx task s)
+enqueue_fits program n ctx task s f p =
+    job_pushed program n ctx.low (record { no = s.queues.next; ctx = ctx; frame = task }) s.queues s f p (entry.Enq s.queues.next ctx.low)
 
-register_at_fits : (program : List NumProc) (n : ℕ) (o : Option ℤ) (i : ℕ) (ctx : Ctx) (frame : Frame) (s : State) → StateFits program n s → HeldFits program n ctx frame → StateFits program n (register_at o i ctx frame s)
+register_at_fits : (program : List NumProc) (n : ℕ) (o : Option ℤ) (i : ℕ) (ctx : Ctx) (frame : Frame) (s : State) → StateFits program n s
+    → HeldFits program n ctx frame → StateFits program n (register_at o i ctx frame s)
 register_at_fits program n (Some v) i ctx frame s f p = enqueue_fits program n ctx (woken_task frame v) s f p
-register_at_fits program n None i ctx frame s f p = record { handlers = all_push (HandlerFits program n) s.cells.registrations (record { number = s.cells.next; ivar = i; ctx = ctx; frame = frame }) f.handlers p; normal = f.normal; low = f.low }
+register_at_fits program n None i ctx frame s f p =
+    record {
+      handlers = all_push (HandlerFits program n) s.cells.registrations
+          (record { number = s.cells.next; ivar = i; ctx = ctx; frame = frame }) f.handlers p;
+      normal = f.normal;
+      low = f.low;
+    }
 
-woken_fits : (program : List NumProc) (n : ℕ) (v : ℤ) (gs : List (Registration Frame)) (s : State) → StateFits program n s → AllByRecursion (HandlerFits program n) gs → StateFits program n (fold (woken_by v) s gs)
+woken_fits : (program : List NumProc) (n : ℕ) (v : ℤ) (gs : List (Registration Frame)) (s : State) → StateFits program n s
+    → AllByRecursion (HandlerFits program n) gs → StateFits program n (fold (woken_by v) s gs)
 woken_fits program n v [] s f p = f
 woken_fits program n v (g ∷ gs) s f p = woken_fits program n v gs (woken_by v s g) (enqueue_fits program n g.ctx (woken_task g.frame v) s f p.0) p.1
 
@@ -152,12 +171,16 @@ renamed_fits program n from to s h f =
     let g : ℕ → ℕ = renamed from to
     in let p : (i : ℕ) → i < n → g i < n = λ i q. renamed_below from to n i h q
     in record {
-      handlers = all_map (HandlerFits program n) (HandlerFits program n) (registration_mapped g) (λ r. held_mapped program g n p r.ctx r.frame) s.cells.registrations f.handlers;
-      normal = all_map (JobFits program n) (JobFits program n) (job_mapped g) (λ job. held_mapped program g n p job.ctx job.frame.frame) s.queues.normal f.normal;
+      handlers =
+          all_map (HandlerFits program n) (HandlerFits program n) (registration_mapped g)
+          (λ r. held_mapped program g n p r.ctx r.frame) s.cells.registrations f.handlers;
+      normal =
+          all_map (JobFits program n) (JobFits program n) (job_mapped g) (λ job. held_mapped program g n p job.ctx job.frame.frame) s.queues.normal f.normal;
       low = all_map (JobFits program n) (JobFits program n) (job_mapped g) (λ job. held_mapped program g n p job.ctx job.frame.frame) s.queues.low f.low;
     }
 
-connect_at_fits : (program : List NumProc) (n : ℕ) (b : Bool) (o p : Option ℤ) (result right : ℕ) (s : State) → result < n → StateFits program n s → StateFits program n (cond b s (connect_at o p result right s))
+connect_at_fits : (program : List NumProc) (n : ℕ) (b : Bool) (o p : Option ℤ) (result right : ℕ) (s : State) → result < n → StateFits program n s
+    → StateFits program n (cond b s (connect_at o p result right s))
 connect_at_fits program n true o p result right s h f = f
 connect_at_fits program n false (Some w) p result right s h f = f
 connect_at_fits program n false None (Some v) result right s h f = fill_at_fits program n (number_at result s) result v s f
@@ -171,7 +194,8 @@ woken_length v (g ∷ gs) s = woken_length v gs (woken_by v s g)
 
 fill_at_length : (o : Option ℤ) (i : ℕ) (v : ℤ) (s : State) → length (fill_at o i v s).cells.ivars ≡ length s.cells.ivars
 fill_at_length (Some w) i v s = refl
-fill_at_length None i v s = woken_length v (waiting_on i s.cells) (noting (entry.Fill i v) (record s { cells = filled i v s.cells })) ∙ length-set s.cells.ivars i (Some v)
+fill_at_length None i v s =
+    woken_length v (waiting_on i s.cells) (noting (entry.Fill i v) (record s { cells = filled i v s.cells })) ∙ length-set s.cells.ivars i (Some v)
 
 register_at_length : (o : Option ℤ) (i : ℕ) (ctx : Ctx) (frame : Frame) (s : State) → length (register_at o i ctx frame s).cells.ivars ≡ length s.cells.ivars
 register_at_length (Some v) i ctx frame s = refl
@@ -180,7 +204,8 @@ register_at_length None i ctx frame s = refl
 pub register_length : (i : ℕ) (ctx : Ctx) (frame : Frame) (s : State) → length (register i ctx frame s).cells.ivars ≡ length s.cells.ivars
 register_length i ctx frame s = register_at_length (number_at i s) i ctx frame s
 
-connect_at_length : (b : Bool) (o p : Option ℤ) (result right : ℕ) (s : State) → length (cond b s (connect_at o p result right s)).cells.ivars ≡ length s.cells.ivars
+connect_at_length : (b : Bool) (o p : Option ℤ) (result right : ℕ) (s : State)
+    → length (cond b s (connect_at o p result right s)).cells.ivars ≡ length s.cells.ivars
 connect_at_length true o p result right s = refl
 connect_at_length false (Some w) p result right s = refl
 connect_at_length false None (Some v) result right s = fill_at_length (number_at result s) result v s
@@ -191,20 +216,26 @@ pub record Grows (program : List NumProc) (s s' : State) : Type 0 where
   pub more : length s.cells.ivars ≤ length s'.cells.ivars
   pub fits : Fits program s'
 
-same_grows : (program : List NumProc) (s s' : State) → length s'.cells.ivars ≡ length s.cells.ivars → StateFits program (length s.cells.ivars) s' → Grows program s s'
+same_grows : (program : List NumProc) (s s' : State) → length s'.cells.ivars ≡ length s.cells.ivars → StateFits program (length s.cells.ivars) s'
+    → Grows program s s'
 same_grows program s s' e f = record { more = omega (arith, e); fits = subst (λ n. StateFits program n s') (sym e) f }
 
 pub noted_grows : (program : List NumProc) (e : Entry) (s : State) → Fits program s → Grows program s (noting e s)
 noted_grows program e s f = record { more = omega arith; fits = record { handlers = f.handlers; normal = f.normal; low = f.low } }
 
-pub enqueue_grows : (program : List NumProc) (ctx : Ctx) (task : Task) (s : State) → Fits program s → HeldFits program (length s.cells.ivars) ctx task.frame → Grows program s (enqueue ctx task s)
+pub enqueue_grows : (program : List NumProc) (ctx : Ctx) (task : Task) (s : State) → Fits program s
+    → HeldFits program (length s.cells.ivars) ctx task.frame → Grows program s (enqueue ctx task s)
 enqueue_grows program ctx task s f p = record { more = omega arith; fits = enqueue_fits program (length s.cells.ivars) ctx task s f p }
 
 pub fill_grows : (program : List NumProc) (i : ℕ) (v : ℤ) (s : State) → Fits program s → Grows program s (fill i v s)
-fill_grows program i v s f = same_grows program s (fill i v s) (fill_at_length (number_at i s) i v s) (fill_at_fits program (length s.cells.ivars) (number_at i s) i v s f)
+fill_grows program i v s f =
+    same_grows program s (fill i v s) (fill_at_length (number_at i s) i v s) (fill_at_fits program (length s.cells.ivars) (number_at i s) i v s f)
 
-pub register_grows : (program : List NumProc) (i : ℕ) (ctx : Ctx) (frame : Frame) (s : State) → Fits program s → HeldFits program (length s.cells.ivars) ctx frame → Grows program s (register i ctx frame s)
-register_grows program i ctx frame s f p = same_grows program s (register i ctx frame s) (register_at_length (number_at i s) i ctx frame s) (register_at_fits program (length s.cells.ivars) (number_at i s) i ctx frame s f p)
+pub register_grows : (program : List NumProc) (i : ℕ) (ctx : Ctx) (frame : Frame) (s : State) → Fits program s
+    → HeldFits program (length s.cells.ivars) ctx frame → Grows program s (register i ctx frame s)
+register_grows program i ctx frame s f p =
+    same_grows program s (register i ctx frame s) (register_at_length (number_at i s) i ctx frame s)
+    (register_at_fits program (length s.cells.ivars) (number_at i s) i ctx frame s f p)
 
 pub drawn_one : (s : State) → length (with_ivar s).cells.ivars ≡ length s.cells.ivars + 1
 drawn_one s = length-append s.cells.ivars (None ∷ [])
@@ -215,7 +246,8 @@ ivar_grows program s f =
     in let g = grown_fits program (length s.cells.ivars) (length (with_ivar s).cells.ivars) s more f
     in record { more = more; fits = record { handlers = g.handlers; normal = g.normal; low = g.low } }
 
-connect_grows : (program : List NumProc) (result right : ℕ) (s : State) → result < length s.cells.ivars → Fits program s → Grows program s (connect result right s)
+connect_grows : (program : List NumProc) (result right : ℕ) (s : State) → result < length s.cells.ivars → Fits program s
+    → Grows program s (connect result right s)
 connect_grows program result right s h f =
     same_grows program s (connect result right s) (connect_at_length (result == right) (number_at result s) (number_at right s) result right s)
     (connect_at_fits program (length s.cells.ivars) (result == right) (number_at result s) (number_at right s) result right s h f)
@@ -223,17 +255,20 @@ connect_grows program result right s h f =
 kept_grows : (program : List NumProc) (s : State) → Fits program s → Grows program s s
 kept_grows program s f = record { more = omega arith; fits = f }
 
-pub number_returned_grows : (program : List NumProc) (ret : Ret) (z : ℤ) (s : State) → RetFits (length s.cells.ivars) ret → Fits program s → Grows program s (number_returned ret z s)
+pub number_returned_grows : (program : List NumProc) (ret : Ret) (z : ℤ) (s : State) → RetFits (length s.cells.ivars) ret → Fits program s
+    → Grows program s (number_returned ret z s)
 number_returned_grows program Drop z s r f = kept_grows program s f
 number_returned_grows program (To x) z s r f = fill_grows program x z s f
 number_returned_grows program ret z s r f = absurd r
 
-deferred_returned_grows : (program : List NumProc) (ret : Ret) (i : ℕ) (s : State) → RetFits (length s.cells.ivars) ret → Fits program s → Grows program s (deferred_returned ret i s)
+deferred_returned_grows : (program : List NumProc) (ret : Ret) (i : ℕ) (s : State) → RetFits (length s.cells.ivars) ret → Fits program s
+    → Grows program s (deferred_returned ret i s)
 deferred_returned_grows program Drop i s r f = kept_grows program s f
 deferred_returned_grows program (To x) i s r f = connect_grows program x i s r f
 deferred_returned_grows program ret i s r f = absurd r
 
-pub returned_grows : (program : List NumProc) (ret : Ret) (v : Value) (s : State) → RetFits (length s.cells.ivars) ret → Fits program s → Grows program s (returned ret v s)
+pub returned_grows : (program : List NumProc) (ret : Ret) (v : Value) (s : State) → RetFits (length s.cells.ivars) ret → Fits program s
+    → Grows program s (returned ret v s)
 returned_grows program ret (value.Num z) s r f = number_returned_grows program ret z s r f
 returned_grows program ret (value.Ivar i) s r f = deferred_returned_grows program ret i s r f
 returned_grows program ret (value.Def i) s r f = deferred_returned_grows program ret i s r f
@@ -261,7 +296,9 @@ alarms_filled_grow program (alarm ∷ alarms) s f =
 pub cycle_grows : (program : List NumProc) (s : State) → Fits program s → Grows program s (cycle_begun s)
 cycle_grows program s f =
     let t : State = noting entry.Cycle (record s { queues = recounted s.queues })
-    in let one = all_filled_grow program (pos 0) t.clock.yields (record t { clock = clock.without_yields t.clock }) (record { handlers = f.handlers; normal = f.normal; low = f.low })
+    in let one = all_filled_grow program (pos 0) t.clock.yields (record t { clock = clock.without_yields t.clock })
+    (record { handlers = f.handlers; normal = f.normal; low = f.low })
     in let u : State = yields_filled t
-    in let two = alarms_filled_grow program (clock.due_alarms u.clock) (record u { clock = clock.without_due u.clock }) (record { handlers = one.fits.handlers; normal = one.fits.normal; low = one.fits.low })
+    in let two = alarms_filled_grow program (clock.due_alarms u.clock) (record u { clock = clock.without_due u.clock })
+    (record { handlers = one.fits.handlers; normal = one.fits.normal; low = one.fits.low })
     in record { more = omega (arith, one.more, two.more); fits = two.fits }

@@ -14,7 +14,8 @@ use Rattle.ak_exec.specs.Seen.{without_pick}
 use Rattle.ak_exec.specs.Fits.{JobFits, StateFits, Fits}
 use Rattle.ak_exec.proofs.Fitting.{held_grows}
 
-under_mapped : (f : ℕ → ℕ) (ran limit : ℕ) (jobs : List (Job Task)) → first_under ran limit (map (job_mapped f) jobs) ≡ option_map (job_mapped f) (first_under ran limit jobs)
+under_mapped : (f : ℕ → ℕ) (ran limit : ℕ) (jobs : List (Job Task))
+    → first_under ran limit (map (job_mapped f) jobs) ≡ option_map (job_mapped f) (first_under ran limit jobs)
 under_mapped f ran limit [] = refl
 under_mapped f ran limit (job ∷ jobs) = by (nat_lt ran limit)
   where
@@ -22,7 +23,8 @@ under_mapped f ran limit (job ∷ jobs) = by (nat_lt ran limit)
     by true = refl
     by false = refl
 
-or_mapped : (f : ℕ → ℕ) (a b : Option (Job Task)) → pick_or (option_map (job_mapped f) a) (option_map (job_mapped f) b) ≡ option_map (job_mapped f) (pick_or a b)
+or_mapped : (f : ℕ → ℕ) (a b : Option (Job Task))
+    → pick_or (option_map (job_mapped f) a) (option_map (job_mapped f) b) ≡ option_map (job_mapped f) (pick_or a b)
 or_mapped f (Some job) b = refl
 or_mapped f None b = refl
 
@@ -50,7 +52,8 @@ rest_mapped : (f : ℕ → ℕ) (jobs : List (Job Task)) → rest_of (map (job_m
 rest_mapped f [] = refl
 rest_mapped f (job ∷ jobs) = refl
 
-by_mapped : (f : ℕ → ℕ) (a b : Option (Job Task)) (q : Queues Task) → picked_by (option_map (job_mapped f) a) (option_map (job_mapped f) b) (queues_mapped f q) ≡ queues_mapped f (picked_by a b q)
+by_mapped : (f : ℕ → ℕ) (a b : Option (Job Task)) (q : Queues Task)
+    → picked_by (option_map (job_mapped f) a) (option_map (job_mapped f) b) (queues_mapped f q) ≡ queues_mapped f (picked_by a b q)
 by_mapped f (Some job) b q = rw (rest_mapped f q.normal) refl
 by_mapped f None (Some job) q = rw (rest_mapped f q.low) refl
 by_mapped f None None q = refl
@@ -62,7 +65,8 @@ picked_mapped f q =
     ∙ by_mapped f (first_under q.normal_ran q.limit q.normal) (first_under q.low_ran q.limit q.low) q
 
 -- ---- jobs that fit
-under_fits : (program : List NumProc) (n ran limit : ℕ) (jobs : List (Job Task)) → AllByRecursion (JobFits program n) jobs → IfSome (first_under ran limit jobs) (JobFits program n)
+under_fits : (program : List NumProc) (n ran limit : ℕ) (jobs : List (Job Task)) → AllByRecursion (JobFits program n) jobs
+    → IfSome (first_under ran limit jobs) (JobFits program n)
 under_fits program n ran limit [] h = tt
 under_fits program n ran limit (job ∷ jobs) h = by (nat_lt ran limit)
   where
@@ -70,7 +74,8 @@ under_fits program n ran limit (job ∷ jobs) h = by (nat_lt ran limit)
     by true = h.0
     by false = tt
 
-or_fits : (program : List NumProc) (n : ℕ) (a b : Option (Job Task)) → IfSome a (JobFits program n) → IfSome b (JobFits program n) → IfSome (pick_or a b) (JobFits program n)
+or_fits : (program : List NumProc) (n : ℕ) (a b : Option (Job Task)) → IfSome a (JobFits program n) → IfSome b (JobFits program n)
+    → IfSome (pick_or a b) (JobFits program n)
 or_fits program n (Some job) b p q = p
 or_fits program n None b p q = q
 
@@ -83,13 +88,16 @@ rest_fits : {A : Type 0} (P : A → Type 0) (xs : List A) → AllByRecursion P x
 rest_fits P [] h = tt
 rest_fits P (x ∷ xs) h = h.1
 
-by_fits : (program : List NumProc) (n : ℕ) (a b : Option (Job Task)) (s : State) → StateFits program n s → StateFits program n (record s { queues = picked_by a b s.queues })
+by_fits : (program : List NumProc) (n : ℕ) (a b : Option (Job Task)) (s : State) → StateFits program n s
+    → StateFits program n (record s { queues = picked_by a b s.queues })
 by_fits program n (Some job) b s f = record { handlers = f.handlers; normal = rest_fits (JobFits program n) s.queues.normal f.normal; low = f.low }
 by_fits program n None (Some job) s f = record { handlers = f.handlers; normal = f.normal; low = rest_fits (JobFits program n) s.queues.low f.low }
 by_fits program n None None s f = record { handlers = f.handlers; normal = f.normal; low = f.low }
 
 pub left_fits : (program : List NumProc) (s : State) → Fits program s → Fits program (without_pick s)
-left_fits program s f = by_fits program (length s.cells.ivars) (first_under s.queues.normal_ran s.queues.limit s.queues.normal) (first_under s.queues.low_ran s.queues.limit s.queues.low) s f
+left_fits program s f =
+    by_fits program (length s.cells.ivars) (first_under s.queues.normal_ran s.queues.limit s.queues.normal)
+    (first_under s.queues.low_ran s.queues.limit s.queues.low) s f
 
 -- the picked job still fits
 pub picked_grows : (program : List NumProc) (n n' : ℕ) → n ≤ n' → (o : Option (Job Task)) → IfSome o (JobFits program n) → IfSome o (JobFits program n')

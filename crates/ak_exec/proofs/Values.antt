@@ -41,7 +41,8 @@ value_serves n kind wanted v f (inl e) = subst (λ k. ValueFits n k v) e f
 value_serves n kind wanted v f (inr e) = subst (λ k. ValueFits n k v) (sym e.1) (ivar_as_def n v (subst (λ k. ValueFits n k v) e.0 f))
 
 -- ---- locals
-pub local_fits : (n : ℕ) (kinds : List Kind) (vals : List Value) (k : ℕ) (wanted : Kind) → ValsFit n kinds vals → IsKnown kinds (used k wanted) → (k < length vals) × ValueFits n wanted (local vals k)
+pub local_fits : (n : ℕ) (kinds : List Kind) (vals : List Value) (k : ℕ) (wanted : Kind) → ValsFit n kinds vals → IsKnown kinds (used k wanted)
+    → (k < length vals) × ValueFits n wanted (local vals k)
 local_fits n [] vals k wanted f h = absurd h
 local_fits n (kind ∷ kinds) [] k wanted f h = absurd f
 local_fits n (kind ∷ kinds) (v ∷ vals) zero wanted f h = (omega arith, value_serves n kind wanted v f.0 (any_one (Serves kind) wanted h))
@@ -85,7 +86,8 @@ pub num_at : (n : ℕ) (kinds : List Kind) (vals : List Value) (a : NumAtom) →
 num_at n kinds vals (Literal z) f h = (tt, tt)
 num_at n kinds vals (Local k) f h = let p = local_fits n kinds vals k Num f h.0 in (p.0, num_value n (local vals k) p.1)
 
-returned_local : (n : ℕ) (kinds : List Kind) (vals : List Value) (k : ℕ) → ValsFit n kinds vals → IsKnown kinds (record { place = k; wanted = Num ∷ Def ∷ [] }) → (k < length vals) × IsReturned n (local vals k)
+returned_local : (n : ℕ) (kinds : List Kind) (vals : List Value) (k : ℕ) → ValsFit n kinds vals
+    → IsKnown kinds (record { place = k; wanted = Num ∷ Def ∷ [] }) → (k < length vals) × IsReturned n (local vals k)
 returned_local n [] vals k f h = absurd h
 returned_local n (kind ∷ kinds) [] k f h = absurd f
 returned_local n (kind ∷ kinds) (v ∷ vals) zero f h = (omega arith, by (any_two (Serves kind) Num Def h))
@@ -96,16 +98,19 @@ returned_local n (kind ∷ kinds) (v ∷ vals) zero f h = (omega arith, by (any_
 returned_local n (kind ∷ kinds) (v ∷ vals) (suc k) f h =
     let p = returned_local n kinds vals k f.1 h in let q : k < length vals = p.0 in (omega (arith, q), p.1)
 
-pub returned_at : (n : ℕ) (kinds : List Kind) (vals : List Value) (a : NumAtom) → ValsFit n kinds vals → AllByRecursion (IsKnown kinds) (returned a) → IsBound (length vals) a × IsReturned n (value_of vals a)
+pub returned_at : (n : ℕ) (kinds : List Kind) (vals : List Value) (a : NumAtom) → ValsFit n kinds vals → AllByRecursion (IsKnown kinds) (returned a)
+    → IsBound (length vals) a × IsReturned n (value_of vals a)
 returned_at n kinds vals (Literal z) f h = (tt, tt)
 returned_at n kinds vals (Local k) f h = returned_local n kinds vals k f h.0
 
 -- ---- arguments
-passed_bound : (n : ℕ) (kinds : List Kind) (vals : List Value) (a : NumAtom) (param : NumParam) → ValsFit n kinds vals → IsPassed kinds a param → IsBound (length vals) a
+passed_bound : (n : ℕ) (kinds : List Kind) (vals : List Value) (a : NumAtom) (param : NumParam) → ValsFit n kinds vals → IsPassed kinds a param
+    → IsBound (length vals) a
 passed_bound n kinds vals (Literal z) param f h = tt
 passed_bound n kinds vals (Local k) param f h = (local_fits n kinds vals k param.kind f h).0
 
-passed_fits : (n : ℕ) (kinds : List Kind) (vals : List Value) (a : NumAtom) (param : NumParam) → ValsFit n kinds vals → IsPassed kinds a param → ValueFits n param.kind (value_of vals a)
+passed_fits : (n : ℕ) (kinds : List Kind) (vals : List Value) (a : NumAtom) (param : NumParam) → ValsFit n kinds vals → IsPassed kinds a param
+    → ValueFits n param.kind (value_of vals a)
 passed_fits n kinds vals (Literal z) param f h = subst (λ k. ValueFits n k (value.Num z)) (sym h) tt
 passed_fits n kinds vals (Local k) param f h = (local_fits n kinds vals k param.kind f h).1
 
@@ -113,12 +118,15 @@ bound_cons : (m : ℕ) (a : NumAtom) (args : List NumAtom) → IsBound m a → A
 bound_cons m a args p q zero d h = p
 bound_cons m a args p q (suc k) d h = q k d (omega (arith, h))
 
-args_bound : (n : ℕ) (kinds : List Kind) (vals : List Value) (args : List NumAtom) (params : List NumParam) → ValsFit n kinds vals → AllZip (IsPassed kinds) args params → AreBound vals args
+args_bound : (n : ℕ) (kinds : List Kind) (vals : List Value) (args : List NumAtom) (params : List NumParam) → ValsFit n kinds vals
+    → AllZip (IsPassed kinds) args params → AreBound vals args
 args_bound n kinds vals [] params f h = λ k d p. absurd (omega (arith, p))
 args_bound n kinds vals (a ∷ args) [] f h = absurd h
-args_bound n kinds vals (a ∷ args) (param ∷ params) f h = bound_cons (length vals) a args (passed_bound n kinds vals a param f h.0) (args_bound n kinds vals args params f h.1)
+args_bound n kinds vals (a ∷ args) (param ∷ params) f h =
+    bound_cons (length vals) a args (passed_bound n kinds vals a param f h.0) (args_bound n kinds vals args params f h.1)
 
-args_fit : (n : ℕ) (kinds : List Kind) (vals : List Value) (args : List NumAtom) (params : List NumParam) → ValsFit n kinds vals → AllZip (IsPassed kinds) args params → ValsFit n (kinds_of params) (args_of vals args)
+args_fit : (n : ℕ) (kinds : List Kind) (vals : List Value) (args : List NumAtom) (params : List NumParam) → ValsFit n kinds vals
+    → AllZip (IsPassed kinds) args params → ValsFit n (kinds_of params) (args_of vals args)
 args_fit n kinds vals [] [] f h = tt
 args_fit n kinds vals [] (param ∷ params) f h = absurd h
 args_fit n kinds vals (a ∷ args) [] f h = absurd h
@@ -135,7 +143,8 @@ pub call_bound : (program : List NumProc) (n : ℕ) (kinds : List Kind) (vals : 
 call_bound program n kinds vals proc front args f h = call_bound_at (slice_get program proc) n kinds vals proc front args f h
 
 call_fits_at : (o : Option NumProc) (n : ℕ) (kinds : List Kind) (vals : List Value) (proc : ℕ) (args : List NumAtom) → ValsFit n kinds vals
-    → MatchOption o ⊥ (λ (p : NumProc). Takes kinds p.params (record { place = proc; front = 0; args = args })) → MatchOption o ⊥ (λ (p : NumProc). ValsFit n (kinds_of p.params) (args_of vals args))
+    → MatchOption o ⊥ (λ (p : NumProc). Takes kinds p.params (record { place = proc; front = 0; args = args }))
+    → MatchOption o ⊥ (λ (p : NumProc). ValsFit n (kinds_of p.params) (args_of vals args))
 call_fits_at None n kinds vals proc args f h = absurd h
 call_fits_at (Some p) n kinds vals proc args f h = args_fit n kinds vals args p.params f h.args
 
@@ -147,10 +156,12 @@ call_fits program n kinds vals proc args f h = call_fits_at (slice_get program p
 first_fits : (n : ℕ) (kinds : List Kind) (vals : List Value) (proc : ℕ) (params : List NumParam) (args : List NumAtom) → ValsFit n kinds vals
     → Takes kinds params (record { place = proc; front = 1; args = args }) → ValsFit n (kinds_of params) (value.Num (pos 0) ∷ args_of vals args)
 first_fits n kinds vals proc [] args f h = absurd (omega (arith, h.enough))
-first_fits n kinds vals proc (param ∷ params) args f h = (subst (λ k. ValueFits n k (value.Num (pos 0))) (sym h.front.0) tt, args_fit n kinds vals args params f h.args)
+first_fits n kinds vals proc (param ∷ params) args f h =
+    (subst (λ k. ValueFits n k (value.Num (pos 0))) (sym h.front.0) tt, args_fit n kinds vals args params f h.args)
 
 value_call_at : (o : Option NumProc) (n : ℕ) (kinds : List Kind) (vals : List Value) (proc : ℕ) (args : List NumAtom) → ValsFit n kinds vals
-    → MatchOption o ⊥ (λ (p : NumProc). Takes kinds p.params (record { place = proc; front = 1; args = args })) → MatchOption o ⊥ (λ (p : NumProc). ValsFit n (kinds_of p.params) (value.Num (pos 0) ∷ args_of vals args))
+    → MatchOption o ⊥ (λ (p : NumProc). Takes kinds p.params (record { place = proc; front = 1; args = args }))
+    → MatchOption o ⊥ (λ (p : NumProc). ValsFit n (kinds_of p.params) (value.Num (pos 0) ∷ args_of vals args))
 value_call_at None n kinds vals proc args f h = absurd h
 value_call_at (Some p) n kinds vals proc args f h = first_fits n kinds vals proc p.params args f h
 
@@ -176,7 +187,8 @@ vals_grow n n' (kind ∷ kinds) (v ∷ vals) h f = (value_grows n n' kind v h f.
 vals_grow n n' [] (v ∷ vals) h f = absurd f
 vals_grow n n' (kind ∷ kinds) [] h f = absurd f
 
-pub vals_push : (n : ℕ) (kinds : List Kind) (vals : List Value) (kind : Kind) (v : Value) → ValsFit n kinds vals → ValueFits n kind v → ValsFit n (kinds ++ kind ∷ []) (vals ++ v ∷ [])
+pub vals_push : (n : ℕ) (kinds : List Kind) (vals : List Value) (kind : Kind) (v : Value) → ValsFit n kinds vals → ValueFits n kind v
+    → ValsFit n (kinds ++ kind ∷ []) (vals ++ v ∷ [])
 vals_push n [] [] kind v f p = (p, tt)
 vals_push n (x ∷ kinds) (y ∷ vals) kind v f p = (f.0, vals_push n kinds vals kind v f.1 p)
 vals_push n [] (y ∷ vals) kind v f p = absurd f

@@ -23,35 +23,39 @@ use Rattle.ak_exec.specs.Seen.{Seen}
 use Rattle.ak_exec.specs.Steps.{Takes, ended_by}
 use Rattle.ak_exec.specs.declared.statement.Step.{Step}
 use Rattle.ak_exec.specs.declared.statement.Step.TheVariants as step_is
-use Rattle.ak_program.specs.declared.program.NumPrefix.{NumPrefix}
-use Rattle.ak_program.specs.declared.statement.NumStmt.{NumStmt}
-use Rattle.ak_holders.specs.Prefixes.{BindsAlone, LineBindsAlone, PrefixesBindNothing}
 use Rattle.ak_holders.specs.Returns.{IsEmptyResult, LinesReturn}
 use Rattle.ak_holders.proofs.Carry.{returns_on, returns_here as returns_at}
-use Rattle.ak_exec.specs.Built.{MayHavePrefix, IsBuilt, ProcIsBuilt, AreBuilt}
+use Rattle.ak_exec.specs.Built.{ProcIsBuilt, AreBuilt}
 use Rattle.ak_exec.specs.Fits.{ValueFits, ValsFit, kinds_of, AreTyped, CallFits, IsReturned, IsUnderWay}
 use Rattle.ak_exec.proofs.Typed.{head_returned}
 
 -- a line that goes on
-goes_here : (ctx : Ctx) (ret : Ret) (line : NumStatement) (rest : List NumStatement) (s s' : State) (vals vals' : List Value) → line_effect ctx line s vals ≡ Goes s' vals' → run_lines ctx ret (line ∷ rest) s vals ≡ run_lines ctx ret rest s' vals'
+goes_here : (ctx : Ctx) (ret : Ret) (line : NumStatement) (rest : List NumStatement) (s s' : State) (vals vals' : List Value)
+    → line_effect ctx line s vals ≡ Goes s' vals' → run_lines ctx ret (line ∷ rest) s vals ≡ run_lines ctx ret rest s' vals'
 goes_here ctx ret line rest s s' vals vals' e = rw (e, run_lines) refl
 
-pub line_goes : (ctx : Ctx) (ret ret' : Ret) (lines : List NumStatement) (line : NumStatement) (rest : List NumStatement) (s s' : State) (vals vals' : List Value) → lines ≡ line ∷ rest → ret' ≡ ret → line_effect ctx line s vals ≡ Goes s' vals' → run_lines ctx ret lines s vals ≡ run_lines ctx ret' rest s' vals'
+pub line_goes : (ctx : Ctx) (ret ret' : Ret) (lines : List NumStatement) (line : NumStatement) (rest : List NumStatement) (s s' : State)
+    (vals vals' : List Value) → lines ≡ line ∷ rest → ret' ≡ ret → line_effect ctx line s vals ≡ Goes s' vals'
+    → run_lines ctx ret lines s vals ≡ run_lines ctx ret' rest s' vals'
 line_goes ctx ret ret' lines line rest s s' vals vals' el er e =
     ap (λ ls. run_lines ctx ret ls s vals) el ∙ goes_here ctx ret line rest s s' vals vals' e ∙ ap (λ r. run_lines ctx r rest s' vals') (sym er)
 
 -- a line that ends the job
-raises_here : (ctx : Ctx) (ret : Ret) (line : NumStatement) (rest : List NumStatement) (s : State) (vals : List Value) (num : ℤ) → line_effect ctx line s vals ≡ Raises num → run_lines ctx ret (line ∷ rest) s vals ≡ Over (send ctx.mon num s)
+raises_here : (ctx : Ctx) (ret : Ret) (line : NumStatement) (rest : List NumStatement) (s : State) (vals : List Value) (num : ℤ)
+    → line_effect ctx line s vals ≡ Raises num → run_lines ctx ret (line ∷ rest) s vals ≡ Over (send ctx.mon num s)
 raises_here ctx ret line rest s vals num e = rw (e, run_lines) refl
 
-returns_here : (ctx : Ctx) (ret : Ret) (line : NumStatement) (rest : List NumStatement) (s : State) (vals : List Value) (v : Value) → line_effect ctx line s vals ≡ Returns v → run_lines ctx ret (line ∷ rest) s vals ≡ Over (going_on (returned ret v s))
+returns_here : (ctx : Ctx) (ret : Ret) (line : NumStatement) (rest : List NumStatement) (s : State) (vals : List Value) (v : Value)
+    → line_effect ctx line s vals ≡ Returns v → run_lines ctx ret (line ∷ rest) s vals ≡ Over (going_on (returned ret v s))
 returns_here ctx ret line rest s vals v e = rw (e, run_lines) refl
 
-pub line_ends : (ctx : Ctx) (ret : Ret) (lines : List NumStatement) (line : NumStatement) (rest : List NumStatement) (old new : Seen) (vals vals' : List Value) (step : Step) → lines ≡ line ∷ rest → step ≢ step_is.Goes → Takes (line_effect ctx line old.plain vals) step old new vals'
+pub line_ends : (ctx : Ctx) (ret : Ret) (lines : List NumStatement) (line : NumStatement) (rest : List NumStatement) (old new : Seen)
+    (vals vals' : List Value) (step : Step) → lines ≡ line ∷ rest → step ≢ step_is.Goes → Takes (line_effect ctx line old.plain vals) step old new vals'
     → run_lines ctx ret lines old.plain vals ≡ Over (ended_by ctx ret (name_in new.names) step new.plain)
 line_ends ctx ret lines line rest old new vals vals' step_is.Goes el n t = absurd (n refl)
 line_ends ctx ret lines line rest old new vals vals' (step_is.Raises num) el n t =
-    ap (λ ls. run_lines ctx ret ls old.plain vals) el ∙ raises_here ctx ret line rest old.plain vals num t.0 ∙ ap (λ (x : Seen). Over (send ctx.mon num x.plain)) (sym t.1)
+    ap (λ ls. run_lines ctx ret ls old.plain vals) el ∙ raises_here ctx ret line rest old.plain vals num t.0
+    ∙ ap (λ (x : Seen). Over (send ctx.mon num x.plain)) (sym t.1)
 line_ends ctx ret lines line rest old new vals vals' (step_is.Returns v) el n t =
     ap (λ ls. run_lines ctx ret ls old.plain vals) el ∙ returns_here ctx ret line rest old.plain vals (value_mapped (name_in new.names) v) t.0
     ∙ ap (λ (x : Seen). Over (going_on (returned ret (value_mapped (name_in new.names) v) x.plain))) (sym t.1)
@@ -63,14 +67,17 @@ ended_same e old new vals' (step_is.Raises num) n t = t.1
 ended_same e old new vals' (step_is.Returns v) n t = t.1
 
 -- and what it returns is there
-pub ended_returned : (program : List NumProc) (ctx : Ctx) (ret : Ret) (old new : Seen) (vals vals' : List Value) (line : NumStatement) (rest : List NumStatement) (step : Step) → IsUnderWay program old.plain vals ctx ret (line ∷ rest) → Takes (line_effect ctx line old.plain vals) step old new vals'
+pub ended_returned : (program : List NumProc) (ctx : Ctx) (ret : Ret) (old new : Seen) (vals vals' : List Value) (line : NumStatement)
+    (rest : List NumStatement) (step : Step) → IsUnderWay program old.plain vals ctx ret (line ∷ rest)
+    → Takes (line_effect ctx line old.plain vals) step old new vals'
     → (v : Value) → step ≡ step_is.Returns v → IsReturned (length new.plain.cells.ivars) (value_mapped (name_in new.names) v)
 ended_returned program ctx ret old new vals vals' line rest step_is.Goes w t v e = absurd (cc)
 ended_returned program ctx ret old new vals vals' line rest (step_is.Raises num) w t v e = absurd (cc)
 ended_returned program ctx ret old new vals vals' line rest (step_is.Returns u) w t v e =
     let same : u ≡ v = cc
     in subst (λ (x : Seen). IsReturned (length x.plain.cells.ivars) (value_mapped (name_in new.names) v)) (sym t.1)
-    (head_returned program ctx ret old.plain vals (value_mapped (name_in new.names) v) line rest w (t.0 ∙ ap (λ x. Returns (value_mapped (name_in new.names) x)) same))
+    (head_returned program ctx ret old.plain vals (value_mapped (name_in new.names) v) line rest w
+    (t.0 ∙ ap (λ x. Returns (value_mapped (name_in new.names) x)) same))
 
 -- ---- the lines of a procedure that is called
 all_get : {A : Type 0} (P : A → Type 0) (xs : List A) (k : ℕ) (x : A) → AllByRecursion P xs → slice_get xs k ≡ Some x → P x
@@ -85,15 +92,24 @@ call_there program n proc vals h = by (slice_get program proc) refl h
     by None e f = absurd f
     by (Some p) e f = slice_get_within program proc p e
 
-pub call_typed : (program : List NumProc) (n proc : ℕ) (vals : List Value) → AllByRecursion (ProcIsSound program) program → AreBuilt program → CallFits program n proc vals → AreTyped program n vals (lines_of program proc)
+pub call_typed : (program : List NumProc) (n proc : ℕ) (vals : List Value) → AllByRecursion (ProcIsSound program) program → AreBuilt program
+    → CallFits program n proc vals → AreTyped program n vals (lines_of program proc)
 call_typed program n proc vals sound built h = by (slice_get program proc) refl h
   where
-    by : (o : Option NumProc) → slice_get program proc ≡ o → MatchOption o ⊥ (λ (p : NumProc). ValsFit n (kinds_of p.params) vals) → AreTyped program n vals (lines_of program proc)
+    by : (o : Option NumProc) → slice_get program proc ≡ o → MatchOption o ⊥ (λ (p : NumProc). ValsFit n (kinds_of p.params) vals)
+        → AreTyped program n vals (lines_of program proc)
     by None e f = absurd f
     by (Some p) e f =
-        let body : lines_of program proc ≡ p.body = ap (λ (q : NumProc). q.body) (get_or_from_slice_get program proc p (record { name = 0; line = 0; params = []; body = [] }) e)
+        let body : lines_of program proc ≡ p.body = ap (λ (q : NumProc). q.body)
+        (get_or_from_slice_get program proc p (record { name = 0; line = 0; params = []; body = [] }) e)
         in subst (AreTyped program n vals) (sym body)
-        (record { kinds = kinds_of p.params; vals_fit = f; sound = (all_get (ProcIsSound program) program proc p sound e).lines; built = all_get ProcIsBuilt program proc p built e })
+        (record {
+          kinds = kinds_of p.params;
+          vals_fit = f;
+          sound =
+              (all_get (ProcIsSound program) program proc p sound e).lines;
+          built = all_get ProcIsBuilt program proc p built e;
+        })
 
 -- any number may stand in front of the values
 first_any : (n : ℕ) (params : List Kind) (z : ℤ) (vals : List Value) → ValsFit n params (value.Num (pos 0) ∷ vals) → ValsFit n params (value.Num z ∷ vals)
@@ -110,32 +126,25 @@ first_any n (kind ∷ params) z vals f = (any_number kind f.0, f.1)
     any_number Event f = absurd f
     any_number Helper f = absurd f
 
-pub value_call : (program : List NumProc) (n proc : ℕ) (z : ℤ) (vals : List Value) → CallFits program n proc (value.Num (pos 0) ∷ vals) → CallFits program n proc (value.Num z ∷ vals)
+pub value_call : (program : List NumProc) (n proc : ℕ) (z : ℤ) (vals : List Value) → CallFits program n proc (value.Num (pos 0) ∷ vals)
+    → CallFits program n proc (value.Num z ∷ vals)
 value_call program n proc z vals h = by (slice_get program proc) h
   where
-    by : (o : Option NumProc) → MatchOption o ⊥ (λ (p : NumProc). ValsFit n (kinds_of p.params) (value.Num (pos 0) ∷ vals)) → MatchOption o ⊥ (λ (p : NumProc). ValsFit n (kinds_of p.params) (value.Num z ∷ vals))
+    by : (o : Option NumProc) → MatchOption o ⊥ (λ (p : NumProc). ValsFit n (kinds_of p.params) (value.Num (pos 0) ∷ vals))
+        → MatchOption o ⊥ (λ (p : NumProc). ValsFit n (kinds_of p.params) (value.Num z ∷ vals))
     by None f = absurd f
     by (Some p) f = first_any n (kinds_of p.params) z vals f
 
 -- ---- a job that returns to an empty deferred
-pub goes_returns : (ctx : Ctx) (ret ret' : Ret) (line : NumStatement) (rest : List NumStatement) (s s' : State) (vals vals' : List Value) → LinesReturn ctx ret (line ∷ rest) s vals → ret' ≡ ret → line_effect ctx line s vals ≡ Goes s' vals' → LinesReturn ctx ret' rest s' vals'
-goes_returns ctx ret ret' line rest s s' vals vals' f er e = subst (λ r. LinesReturn ctx r rest s' vals') (sym er) (returns_on ctx ret line rest s s' vals vals' f e)
+pub goes_returns : (ctx : Ctx) (ret ret' : Ret) (line : NumStatement) (rest : List NumStatement) (s s' : State) (vals vals' : List Value)
+    → LinesReturn ctx ret (line ∷ rest) s vals → ret' ≡ ret → line_effect ctx line s vals ≡ Goes s' vals' → LinesReturn ctx ret' rest s' vals'
+goes_returns ctx ret ret' line rest s s' vals vals' f er e =
+    subst (λ r. LinesReturn ctx r rest s' vals') (sym er) (returns_on ctx ret line rest s s' vals vals' f e)
 
-pub ended_empty : (ctx : Ctx) (ret : Ret) (old new : Seen) (vals vals' : List Value) (line : NumStatement) (rest : List NumStatement) (step : Step) → LinesReturn ctx ret (line ∷ rest) old.plain vals → Takes (line_effect ctx line old.plain vals) step old new vals'
+pub ended_empty : (ctx : Ctx) (ret : Ret) (old new : Seen) (vals vals' : List Value) (line : NumStatement) (rest : List NumStatement) (step : Step)
+    → LinesReturn ctx ret (line ∷ rest) old.plain vals → Takes (line_effect ctx line old.plain vals) step old new vals'
     → (v : Value) → step ≡ step_is.Returns v → IsEmptyResult ret old.plain
 ended_empty ctx ret old new vals vals' line rest step_is.Goes f t v e = absurd (cc)
 ended_empty ctx ret old new vals vals' line rest (step_is.Raises num) f t v e = absurd (cc)
-ended_empty ctx ret old new vals vals' line rest (step_is.Returns u) f t v e = returns_at ctx ret line rest old.plain vals (value_mapped (name_in new.names) u) f t.0
-
-bare_alone : (prefix : Option NumPrefix) (st : NumStmt) → MayHavePrefix prefix st → BindsAlone prefix st
-bare_alone None st h = tt
-bare_alone (Some p) st h = h
-
-lines_alone : (lines : List NumStatement) → AllByRecursion IsBuilt lines → AllByRecursion LineBindsAlone lines
-lines_alone [] h = tt
-lines_alone (line ∷ lines) h = (bare_alone line.prefix line.stmt h.0.0, lines_alone lines h.1)
-
--- the lines of a program that is built bind nothing behind a prefix
-pub built_alone : (program : List NumProc) → AreBuilt program → PrefixesBindNothing program
-built_alone [] h = tt
-built_alone (proc ∷ program) h = (lines_alone proc.body h.0, built_alone program h.1)
+ended_empty ctx ret old new vals vals' line rest (step_is.Returns u) f t v e =
+    returns_at ctx ret line rest old.plain vals (value_mapped (name_in new.names) u) f t.0

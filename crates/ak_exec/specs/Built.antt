@@ -1,12 +1,10 @@
 -- The statements that are built.
-use Rattle.std.specs.Prelude.{◌≡◌, ℕ, List, [], ◌∷◌, ◌++◌, Option, Some, None}
+use Rattle.std.specs.Prelude.{◌≡◌, ℕ, List, ◌∷◌, ◌++◌}
 use Rattle.std.specs.List.{AllByRecursion, flat_map}
-use Rattle.ak_program.specs.declared.program.NumPrefix.{NumPrefix}
 use Rattle.ak_program.specs.declared.program.NumStatement.{NumStatement}
 use Rattle.ak_program.specs.declared.program.NumProc.{NumProc}
 use Rattle.ak_program.specs.declared.statement.NumStmt.{NumStmt}
 use Rattle.ak_program.specs.declared.statement.NumStmt.TheVariants as stmt
-use Rattle.ak_program.specs.Programs.{num_binds}
 
 -- numbers, ivars, handlers, calls and errors; not yet groups, the clock, monitors, throttles, pipes and works
 abbrev pub IsBuiltStmt : NumStmt → Type 0
@@ -24,13 +22,8 @@ IsBuiltStmt (stmt.Raise a) = Unit {0}
 IsBuiltStmt (stmt.Ret a) = Unit {0}
 IsBuiltStmt _ = ⊥
 
--- a statement behind a prefix binds no local
-abbrev pub MayHavePrefix : Option NumPrefix → NumStmt → Type 0
-MayHavePrefix None s = Unit {0}
-MayHavePrefix (Some prefix) s = num_binds s ≡ []
-
 abbrev pub IsBuilt : NumStatement → Type 0
-IsBuilt line = MayHavePrefix line.prefix line.stmt × IsBuiltStmt line.stmt
+IsBuilt line = IsBuiltStmt line.stmt
 
 abbrev pub ProcIsBuilt : NumProc → Type 0
 ProcIsBuilt proc = AllByRecursion IsBuilt proc.body

@@ -20,9 +20,9 @@ pub record Seen : Type 0 where
   pub plain : State
   pub names : List ℕ
 
--- the parts, with the numbers that they were given; nothing is in those that are not built
-abbrev pub raw_state : NamedCells Frame → Queues Task → List Entry → State
-raw_state cells queues trace =
+-- the parts, with the numbers that they were given, and how many askers are left; nothing is in those that are not built
+abbrev pub raw_state : NamedCells Frame → Queues Task → List Entry → ℕ → State
+raw_state cells queues trace left =
     record {
       cells = cells.cells;
       queues = queues;
@@ -36,12 +36,17 @@ raw_state cells queues trace =
       helpers = [];
       works = [];
       next_work = 0;
+      requests = [];
+      left = left;
       trace = trace;
     }
 
-abbrev pub seen : NamedCells Frame → Queues Task → List Entry → Seen
-seen cells queues trace =
-    record { plain = state_named (name_in (trimmed cells.names)) (raw_state cells queues trace); names = trimmed cells.names }
+abbrev pub seen : NamedCells Frame → Queues Task → List Entry → ℕ → Seen
+seen cells queues trace left =
+    record {
+      plain = state_named (name_in (trimmed cells.names)) (raw_state cells queues trace left);
+      names = trimmed cells.names;
+    }
 
 -- each ivar has a name, and no handler is woken
 pub record IsKept (cells : NamedCells Frame) : Type 0 where

@@ -6,8 +6,8 @@ use Rattle.ak_frames.specs.declared.value.Value.{Value}
 use Rattle.ak_frames.specs.declared.frame.Ret.{Ret}
 use Rattle.ak_program.specs.declared.program.NumStatement.{NumStatement}
 use Rattle.ak_trace.specs.declared.entry.Entry.{Entry}
-use Rattle.ak_machine.specs.declared.config.Flow.{Flow}
-use Rattle.ak_machine.specs.declared.config.Flow.TheVariants.{On, Stopped, Unhandled}
+use Rattle.ak_machine.specs.declared.flow.Flow.{Flow}
+use Rattle.ak_machine.specs.declared.flow.Flow.TheVariants.{On, Stopped, Unhandled}
 use Rattle.ak_machine.specs.Status.{Well, ByError, status_of}
 use Rattle.ak_machine.specs.State.{State}
 use Rattle.ak_machine.specs.Number.{Computed, Gives, Overflows, DividesByZero}

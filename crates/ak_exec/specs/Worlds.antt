@@ -1,13 +1,13 @@
 -- What contracts see of a world.
-use Rattle.std.specs.Prelude.{ℕ, ◌+◌, ◌≡◌, ◌≤◌, [], length, false, Option, Some, None, IfSome}
+use Rattle.std.specs.Prelude.{ℕ, ◌+◌, ◌≡◌, ◌≤◌, [], ◌⊎◌, length, false, Option, Some, None, IsSome, IfSome}
 use Rattle.std.specs.Option.{option_map}
 use Rattle.ak_rings.specs.declared.job.Job.{Job}
 use Rattle.ak_frames.specs.declared.frame.Task.{Task}
-use Rattle.ak_machine.specs.declared.config.Config.{Config}
+use Rattle.ak_labor.specs.declared.config.Config.{Config}
 use Rattle.ak_frames.specs.declared.frame.Ret.TheVariants.{Drop}
 use Rattle.ak_rings.specs.Queues.{pick_of}
 use Rattle.ak_cells.specs.Names.{name_in}
-use Rattle.ak_machine.specs.declared.config.Flow.{Flow}
+use Rattle.ak_machine.specs.declared.flow.Flow.{Flow}
 use Rattle.ak_machine.specs.State.{State, initial_state}
 use Rattle.ak_machine.specs.Deferred.{called}
 use Rattle.ak_machine.specs.Mapped.{job_mapped}
@@ -32,11 +32,17 @@ abbrev pub world_of : NumProgram → Config → Seen → Option (Job Task) → �
 world_of program config s picked ran =
     record { program = program; config = config; plain = s.plain; picked = option_map (job_mapped (name_in s.names)) picked; ran = ran }
 
--- all that a world holds fits its program, whose statements are built; a cycle has room for a job; and each name has at most
--- one holder
+-- at most 16 askers, and none where no procedure serves them
+pub record ServesAskers (program : NumProgram) (askers : ℕ) : Type 0 where
+  pub few : askers ≤ 16
+  pub served : (askers ≡ 0) ⊎ IsSome program.ask
+
+-- all that a world holds fits its program, whose statements are built; a cycle has room for a job; a procedure serves the askers;
+-- and each name has at most one holder
 pub record IsWhole (w : Worldly) : Type 0 where
   pub built : AreBuilt w.program.procs
   pub limit : 1 ≤ w.config.limit
+  pub askers : ServesAskers w.program w.config.askers
   pub fits : Fits w.program.procs w.plain
   pub picked : IfSome w.picked (JobFits w.program.procs (length w.plain.cells.ivars))
   pub held : HeldBeside w.program.procs w.picked w.plain
@@ -57,7 +63,7 @@ with_state s w = record w { plain = s }
 
 -- the call of `main` waits in the root monitor, at normal priority, and nothing else is there
 abbrev pub first_state : NumProgram → Config → State
-first_state program config = called (record { mon = 0; low = false }) program.main [] Drop (initial_state config.limit)
+first_state program config = called (record { mon = 0; low = false }) program.main [] Drop (initial_state config.limit config.askers)
 
 -- the state and the flow that the job which was picked comes to
 abbrev pub RunsJob : Worldly → Flow → State → Type 0

@@ -20,7 +20,7 @@ use ak_base::list::{Items, NoMemory};
 use ak_base::number::{Ctx, IvarNo, Num};
 use ak_frames::frame::{Frame, Ret, Task};
 use ak_frames::value::{Vals, Value};
-use ak_machine::config::Flow;
+use ak_machine::flow::Flow;
 use ak_program::program::{NumPrefix, NumStatement, Program};
 use ak_rings::job::Job;
 use ak_trace::entry::Entry;
@@ -48,7 +48,9 @@ fn run_line(
 ) -> Result<Step, NoMemory>
     requires told { IsTold (named parts.old vals.old) line.now.prefix }
     requires ready { IsReady parts.old.plain (named parts.old vals.old) line.now.stmt }
-    ensures takes { IfOk result (λ step. Takes (line_effect ctx line.now parts.old.plain (named parts.old vals.old)) step parts.old parts.new vals.new) }
+    ensures takes { IfOk result (λ step.
+        Takes (line_effect ctx line.now parts.old.plain (named parts.old vals.old))
+        step parts.old parts.new vals.new) }
     ensures names { OnOk result (parts.new.names ≡ parts.old.names) }
 {
     if is_run(parts, line.prefix, vals) {
@@ -61,7 +63,8 @@ fn run_line(
 /// A number is returned: the result is filled, where it is empty.
 fn return_number(parts: &mut Parts, r: IvarNo, num: Num) -> Result<(), NoMemory>
     requires { name_in parts.old.names r < length parts.old.plain.cells.ivars }
-    ensures { OnOk result (parts.new.plain ≡ returned_by (Ret.To (name_in parts.old.names r)) (Value.Num num) parts.old.plain) }
+    ensures { OnOk result (parts.new.plain
+        ≡ returned_by (Ret.To (name_in parts.old.names r)) (Value.Num num) parts.old.plain) }
 {
     parts.check_drawn(r);
     parts.fill(r, num)?;
@@ -73,7 +76,9 @@ fn return_deferred(parts: &mut Parts, r: IvarNo, i: IvarNo) -> Result<(), NoMemo
     requires result { name_in parts.old.names r < length parts.old.plain.cells.ivars }
     requires deferred { name_in parts.old.names i < length parts.old.plain.cells.ivars }
     requires empty { full_with (name_in parts.old.names r) parts.old.plain ≡ None }
-    ensures { OnOk result (parts.new.plain ≡ returned_by (Ret.To (name_in parts.old.names r)) (Value.Def (name_in parts.old.names i)) parts.old.plain) }
+    ensures { OnOk result (parts.new.plain
+        ≡ returned_by (Ret.To (name_in parts.old.names r)) (Value.Def (name_in parts.old.names i))
+        parts.old.plain) }
 {
     parts.check_drawn(r);
     parts.check_drawn(i);
@@ -83,9 +88,12 @@ fn return_deferred(parts: &mut Parts, r: IvarNo, i: IvarNo) -> Result<(), NoMemo
 /// A value is returned to a result.
 fn return_value(parts: &mut Parts, r: IvarNo, value: Value) -> Result<(), NoMemory>
     requires result { name_in parts.old.names r < length parts.old.plain.cells.ivars }
-    requires value { IsReturned (length parts.old.plain.cells.ivars) (value_mapped (name_in parts.old.names) value) }
+    requires value { IsReturned (length parts.old.plain.cells.ivars)
+        (value_mapped (name_in parts.old.names) value) }
     requires empty { full_with (name_in parts.old.names r) parts.old.plain ≡ None }
-    ensures { OnOk result (parts.new.plain ≡ returned_by (Ret.To (name_in parts.old.names r)) (value_mapped (name_in parts.old.names) value) parts.old.plain) }
+    ensures { OnOk result (parts.new.plain
+        ≡ returned_by (Ret.To (name_in parts.old.names r))
+        (value_mapped (name_in parts.old.names) value) parts.old.plain) }
 {
     match value {
         Value::Num(num) => return_number(parts, r, num),
@@ -97,10 +105,14 @@ fn return_value(parts: &mut Parts, r: IvarNo, value: Value) -> Result<(), NoMemo
 
 /// A procedure returns.
 fn returned(parts: &mut Parts, ret: Ret, value: Value) -> Result<(), NoMemory>
-    requires ret { RetFits (length parts.old.plain.cells.ivars) (ret_mapped (name_in parts.old.names) ret) }
-    requires value { IsReturned (length parts.old.plain.cells.ivars) (value_mapped (name_in parts.old.names) value) }
+    requires ret { RetFits (length parts.old.plain.cells.ivars)
+        (ret_mapped (name_in parts.old.names) ret) }
+    requires value { IsReturned (length parts.old.plain.cells.ivars)
+        (value_mapped (name_in parts.old.names) value) }
     requires empty { IsEmptyResult (ret_mapped (name_in parts.old.names) ret) parts.old.plain }
-    ensures { OnOk result (parts.new.plain ≡ returned_by (ret_mapped (name_in parts.old.names) ret) (value_mapped (name_in parts.old.names) value) parts.old.plain) }
+    ensures { OnOk result (parts.new.plain
+        ≡ returned_by (ret_mapped (name_in parts.old.names) ret)
+        (value_mapped (name_in parts.old.names) value) parts.old.plain) }
 {
     match ret {
         Ret::Drop => Ok(()),
@@ -118,15 +130,19 @@ fn ended(
     step: Step,
 ) -> Result<Flow, NoMemory>
     requires root { ctx.mon ≡ 0 }
-    requires ret { RetFits (length parts.old.plain.cells.ivars) (ret_mapped (name_in parts.old.names) ret) }
+    requires ret { RetFits (length parts.old.plain.cells.ivars)
+        (ret_mapped (name_in parts.old.names) ret) }
     requires ends { step ≢ Step.Goes }
-    requires returned { (value : Value) → step ≡ Step.Returns value → IsReturned (length parts.old.plain.cells.ivars) (value_mapped (name_in parts.old.names) value) }
+    requires returned { (value : Value) → step ≡ Step.Returns value
+        → IsReturned (length parts.old.plain.cells.ivars)
+        (value_mapped (name_in parts.old.names) value) }
     requires empty { (value : Value) → step ≡ Step.Returns value
         → IsEmptyResult (ret_mapped (name_in parts.old.names) ret) parts.old.plain }
     requires fits { Fits program.now.procs parts.old.plain }
     ensures fits { OnOk result (Fits program.now.procs parts.new.plain) }
     ensures told { IfOk result (λ flow. Ends flow parts.new.plain.trace) }
-    ensures ends { IfOk result (λ flow. ended_by ctx (ret_mapped (name_in parts.old.names) ret) (name_in parts.old.names) step parts.old.plain ≡ after_is flow parts.new.plain) }
+    ensures ends { IfOk result (λ flow. ended_by ctx (ret_mapped (name_in parts.old.names) ret)
+        (name_in parts.old.names) step parts.old.plain ≡ after_is flow parts.new.plain) }
 {
     match step {
         Step::Goes => unreachable!(),
@@ -152,17 +168,24 @@ fn advance(
     k: usize,
     vals: &mut Vals,
 ) -> Result<Option<Flow>, NoMemory>
-    requires way { IsUnderWay program.now.procs parts.old.plain (named parts.old vals.old) ctx.now (ret_mapped (name_in parts.old.names) ret.now) (drop k lines.now) }
+    requires way { IsUnderWay program.now.procs parts.old.plain (named parts.old vals.old) ctx.now
+        (ret_mapped (name_in parts.old.names) ret.now) (drop k lines.now) }
     requires some { k < length lines.now }
     requires returns { LinesReturn ctx.now (ret_mapped (name_in parts.old.names) ret.now)
         (drop k lines.now) parts.old.plain (named parts.old vals.old) }
     ensures returns { IfOk result (λ next. IfNone next
         (LinesReturn ctx.now (ret_mapped (name_in parts.new.names) ret.now)
         (drop (k + 1) lines.now) parts.new.plain (named parts.new vals.new))) }
-    ensures way { IfOk result (λ next. IfNone next (IsUnderWay program.now.procs parts.new.plain (named parts.new vals.new) ctx.now (ret_mapped (name_in parts.new.names) ret.now) (drop (k + 1) lines.now))) }
+    ensures way { IfOk result (λ next.
+        IfNone next (IsUnderWay program.now.procs parts.new.plain (named parts.new vals.new) ctx.now
+        (ret_mapped (name_in parts.new.names) ret.now) (drop (k + 1) lines.now))) }
     ensures fits { OnOk result (Fits program.now.procs parts.new.plain) }
     ensures told { IfOk result (λ next. IfSome next (λ flow. Ends flow parts.new.plain.trace)) }
-    ensures runs { IfOk result (λ next. lines_run ctx.now (ret_mapped (name_in parts.old.names) ret.now) (drop k lines.now) parts.old.plain (named parts.old vals.old) ≡ progress_of next ctx.now (ret_mapped (name_in parts.new.names) ret.now) (drop (k + 1) lines.now) parts.new.plain (named parts.new vals.new)) }
+    ensures runs { IfOk result (λ next.
+        lines_run ctx.now (ret_mapped (name_in parts.old.names) ret.now) (drop k lines.now)
+        parts.old.plain (named parts.old vals.old)
+        ≡ progress_of next ctx.now (ret_mapped (name_in parts.new.names) ret.now)
+        (drop (k + 1) lines.now) parts.new.plain (named parts.new vals.new)) }
 {
     match run_line(alloc, parts, *ctx, &lines[k], vals)? {
         Step::Goes => Ok(None),
@@ -180,12 +203,15 @@ fn run_lines(
     lines: &[NumStatement],
     vals: &mut Vals,
 ) -> Result<Flow, NoMemory>
-    requires way { IsUnderWay program.now.procs parts.old.plain (named parts.old vals.old) ctx.now (ret_mapped (name_in parts.old.names) ret.now) lines.now }
+    requires way { IsUnderWay program.now.procs parts.old.plain (named parts.old vals.old) ctx.now
+        (ret_mapped (name_in parts.old.names) ret.now) lines.now }
     requires returns { LinesReturn ctx.now (ret_mapped (name_in parts.old.names) ret.now)
         lines.now parts.old.plain (named parts.old vals.old) }
     ensures fits { OnOk result (Fits program.now.procs parts.new.plain) }
     ensures told { IfOk result (λ flow. Ends flow parts.new.plain.trace) }
-    ensures runs { IfOk result (λ flow. lines_run ctx.now (ret_mapped (name_in parts.old.names) ret.now) lines.now parts.old.plain (named parts.old vals.old) ≡ Over (after_is flow parts.new.plain)) }
+    ensures runs { IfOk result (λ flow.
+        lines_run ctx.now (ret_mapped (name_in parts.old.names) ret.now) lines.now parts.old.plain
+        (named parts.old vals.old) ≡ Over (after_is flow parts.new.plain)) }
 {
     for k in 0..lines.len() {
         match advance(alloc, program, parts, ctx, ret, lines, k, vals) {
@@ -234,14 +260,18 @@ fn run_call(
 ) -> Result<Flow, NoMemory>
     requires built { AreBuilt program.now.procs }
     requires root { ctx.mon ≡ 0 }
-    requires call { CallFits program.now.procs (length parts.old.plain.cells.ivars) proc (named parts.old vals) }
+    requires call { CallFits program.now.procs (length parts.old.plain.cells.ivars) proc
+        (named parts.old vals) }
     requires returns { LinesReturn ctx (ret_mapped (name_in parts.old.names) ret)
         (lines_of program.now.procs proc) parts.old.plain (named parts.old vals) }
-    requires ret { RetFits (length parts.old.plain.cells.ivars) (ret_mapped (name_in parts.old.names) ret) }
+    requires ret { RetFits (length parts.old.plain.cells.ivars)
+        (ret_mapped (name_in parts.old.names) ret) }
     requires fits { Fits program.now.procs parts.old.plain }
     ensures fits { OnOk result (Fits program.now.procs parts.new.plain) }
     ensures told { IfOk result (λ flow. Ends flow parts.new.plain.trace) }
-    ensures runs { IfOk result (λ flow. lines_run ctx (ret_mapped (name_in parts.old.names) ret) (lines_of program.now.procs proc) parts.old.plain (named parts.old vals) ≡ Over (after_is flow parts.new.plain)) }
+    ensures runs { IfOk result (λ flow. lines_run ctx (ret_mapped (name_in parts.old.names) ret)
+        (lines_of program.now.procs proc) parts.old.plain (named parts.old vals)
+        ≡ Over (after_is flow parts.new.plain)) }
 {
     let mut vals = vals;
     // For the proof alone: its contract says that the program is sound.
@@ -267,13 +297,16 @@ pub fn run_task(
 ) -> Result<Flow, NoMemory>
     requires built { AreBuilt program.now.procs }
     requires root { ctx.mon ≡ 0 }
-    requires frame { FrameFits program.now.procs (length parts.old.plain.cells.ivars) (frame_mapped (name_in parts.old.names) task.frame) }
+    requires frame { FrameFits program.now.procs (length parts.old.plain.cells.ivars)
+        (frame_mapped (name_in parts.old.names) task.frame) }
     requires returns { FrameReturns program.now.procs ctx
         (frame_mapped (name_in parts.old.names) task.frame) (value_or_zero task.value) parts.old.plain }
     requires fits { Fits program.now.procs parts.old.plain }
     ensures fits { OnOk result (Fits program.now.procs parts.new.plain) }
     ensures told { IfOk result (λ flow. Ends flow parts.new.plain.trace) }
-    ensures runs { IfOk result (λ flow. frame_run program.now.procs ctx (frame_mapped (name_in parts.old.names) task.frame) (value_or_zero task.value) parts.old.plain ≡ Over (after_is flow parts.new.plain)) }
+    ensures runs { IfOk result (λ flow.
+        frame_run program.now.procs ctx (frame_mapped (name_in parts.old.names) task.frame)
+        (value_or_zero task.value) parts.old.plain ≡ Over (after_is flow parts.new.plain)) }
 {
     let Task { frame, value } = task;
     match frame {
@@ -294,12 +327,16 @@ pub fn run_job(
     job: Job<Task>,
 ) -> Result<Flow, NoMemory>
     requires built { AreBuilt program.now.procs }
-    requires job { JobFits program.now.procs (length parts.old.plain.cells.ivars) (job_mapped (name_in parts.old.names) job) }
-    requires returns { JobReturns program.now.procs (job_mapped (name_in parts.old.names) job) parts.old.plain }
+    requires job { JobFits program.now.procs (length parts.old.plain.cells.ivars)
+        (job_mapped (name_in parts.old.names) job) }
+    requires returns { JobReturns program.now.procs (job_mapped (name_in parts.old.names) job)
+        parts.old.plain }
     requires fits { Fits program.now.procs parts.old.plain }
     ensures fits { OnOk result (Fits program.now.procs parts.new.plain) }
     ensures told { IfOk result (λ flow. Ends flow parts.new.plain.trace) }
-    ensures runs { IfOk result (λ flow. job_run program.now.procs (job_mapped (name_in parts.old.names) job) parts.old.plain ≡ Over (after_is flow parts.new.plain)) }
+    ensures runs { IfOk result (λ flow.
+        job_run program.now.procs (job_mapped (name_in parts.old.names) job) parts.old.plain
+        ≡ Over (after_is flow parts.new.plain)) }
 {
     let Job { no, ctx, frame } = job;
     parts.note(Entry::Job { job: no })?;

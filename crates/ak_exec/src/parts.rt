@@ -1,12 +1,12 @@
 //! The parts of the scheduler's state together.
 
-ghost use Rattle.std.specs.Prelude.{◌≡◌, ◌<◌, ◌≤◌, [], ◌∷◌, ◌++◌, length, fold, None, OnOk, OnErr, IfOk, false, not, ◌&&◌};
+ghost use Rattle.std.specs.Prelude.{◌≡◌, ◌<◌, ◌≤◌, [], ◌∷◌, ◌++◌, length, fold, None, OnOk, OnErr, IfOk, false, true, not};
 ghost use Rattle.ak_cells.specs.Names.{name_in};
 ghost use Rattle.std.specs.Option.{option_map};
 ghost use Rattle.ak_rings.specs.Queues.{pick_of, has_pick};
-ghost use Rattle.ak_machine.specs.Cycle.{cycle_begun, has_more, is_stuck};
+ghost use Rattle.ak_machine.specs.Cycle.{cycle_begun, has_more, is_stuck, is_quiet, with_left};
 ghost use Rattle.ak_base.specs.Lists.{is_empty_list};
-ghost use Rattle.ak_machine.specs.declared.config.Flow.{Flow};
+ghost use Rattle.ak_machine.specs.declared.flow.Flow.{Flow};
 ghost use Rattle.ak_machine.specs.Errors.{send};
 ghost use Rattle.ak_machine.specs.Status.{ByError, status_of};
 ghost use Rattle.ak_machine.specs.State.{State, initial_state};
@@ -31,12 +31,13 @@ use ak_trace::entry::{Ending, Entry, Trace};
 use std::alloc::Global;
 use std::marker::Model;
 
-/// The ivars, the jobs that wait, and the trace. Contracts see the plain state that they stand for.
+/// The ivars, the jobs that wait, the trace, and how many askers are left. Contracts see the plain state that they stand for.
 #[derive(Debug, Drop)]
 pub struct Parts {
     cells: Cells<Frame>,
     queues: Rings<Task>,
     trace: Trace,
+    left: u32,
 }
 
 impl Model for Parts {
@@ -44,22 +45,23 @@ impl Model for Parts {
 
     ghost Value = { Seen };
 
-    ghost view = { λ p. seen p.cells.named p.queues.queues p.trace };
+    ghost view = { λ p. seen p.cells.named p.queues.queues p.trace p.left };
 
     ghost invariant = { λ p. IsKept p.cells.named };
 }
 
 impl Parts {
-    /// No ivar was drawn and no job waits. At most `limit` jobs of a priority run in a cycle.
-    pub fn make(alloc: Global, limit: u32) -> Parts
+    /// No ivar was drawn and no job waits. At most `limit` jobs of a priority run in a cycle, and there are so many askers.
+    pub fn make(alloc: Global, limit: u32, askers: u32) -> Parts
         requires { 1 ≤ limit }
-        ensures plain { result.plain ≡ initial_state limit }
+        ensures plain { result.plain ≡ initial_state limit askers }
         ensures names { result.names ≡ [] }
     {
         Parts {
             cells: Cells::make(alloc),
             queues: Rings::make(alloc, limit),
             trace: Trace::make(alloc),
+            left: askers,
         }
     }
 
@@ -73,7 +75,8 @@ impl Parts {
 
     /// A job for the task, last in the queue of its priority.
     pub fn enqueue(&mut self, ctx: Ctx, task: Task) -> Result<(), NoMemory>
-        ensures { OnOk result (self.new ≡ doing (enqueue ctx (task_mapped (name_in self.old.names) task)) self.old) }
+        ensures { OnOk result (self.new ≡ doing
+            (enqueue ctx (task_mapped (name_in self.old.names) task)) self.old) }
     {
         push_job(&mut self.queues, &mut self.trace, ctx, task)?;
         Ok(())
@@ -92,7 +95,9 @@ impl Parts {
     /// The frame waits for an ivar, or is enqueued with its number.
     pub fn register(&mut self, i: IvarNo, ctx: Ctx, frame: Frame) -> Result<(), NoMemory>
         requires { i < length self.old.plain.cells.ivars }
-        ensures { OnOk result (self.new ≡ doing (register (name_in self.old.names i) ctx (frame_mapped (name_in self.old.names) frame)) self.old) }
+        ensures { OnOk result (self.new ≡ doing
+            (register (name_in self.old.names i) ctx (frame_mapped (name_in self.old.names) frame))
+            self.old) }
     {
         self.cells.reserve(0, 1)?;
         match cells::register(&mut self.cells, i, &ctx, frame) {
@@ -108,8 +113,10 @@ impl Parts {
     /// An ivar that is empty is filled, and its handlers are enqueued. The answer is whether it was empty.
     pub fn fill(&mut self, i: IvarNo, num: Num) -> Result<bool, NoMemory>
         requires { i < length self.old.plain.cells.ivars }
-        ensures empty { IfOk result (λ was_empty. was_empty ≡ is_empty (name_in self.old.names i) self.old.plain) }
-        ensures filled { OnOk result (self.new ≡ doing (fill (name_in self.old.names i) num) self.old) }
+        ensures empty { IfOk result (λ was_empty. was_empty
+            ≡ is_empty (name_in self.old.names i) self.old.plain) }
+        ensures filled { OnOk result (self.new
+            ≡ doing (fill (name_in self.old.names i) num) self.old) }
         ensures full { IfOk result (λ was_empty. was_empty ≡ false → self.new ≡ self.old) }
     {
         let ivar = cells::name(&mut self.cells, i);
@@ -131,7 +138,8 @@ impl Parts {
     /// An error at the root, which nobody catches.
     pub fn send_root(&mut self, num: Num) -> Result<(), NoMemory>
         ensures noted { OnOk result (self.new ≡ doing (root_error num) self.old) }
-        ensures sent { OnOk result (send 0 num self.old.plain ≡ record { state = self.new.plain; flow = Flow.Unhandled num }) }
+        ensures sent { OnOk result (send 0 num self.old.plain
+            ≡ record { state = self.new.plain; flow = Flow.Unhandled num }) }
         ensures ends { OnOk result (status_of self.new.plain.trace ≡ ByError num) }
     {
         let mon = MonNo::new(0);
@@ -148,7 +156,8 @@ impl Parts {
         requires result_drawn { r < length self.old.plain.cells.ivars }
         requires right_drawn { i < length self.old.plain.cells.ivars }
         requires empty { full_with (name_in self.old.names r) self.old.plain ≡ None }
-        ensures { OnOk result (self.new.plain ≡ connect (name_in self.old.names r) (name_in self.old.names i) self.old.plain) }
+        ensures { OnOk result (self.new.plain
+            ≡ connect (name_in self.old.names r) (name_in self.old.names i) self.old.plain) }
     {
         let result = cells::name(&mut self.cells, r);
         let right = cells::name(&mut self.cells, i);
@@ -181,7 +190,8 @@ impl Parts {
 
     /// Takes the next job out of its queue: `None` exactly where there is none.
     pub fn pick(&mut self) -> Option<Job<Task>>
-        ensures job { option_map (job_mapped (name_in self.old.names)) result ≡ pick_of self.old.plain.queues }
+        ensures job { option_map (job_mapped (name_in self.old.names)) result
+            ≡ pick_of self.old.plain.queues }
         ensures parts { self.new ≡ doing without_pick self.old }
     {
         self.queues.pick()
@@ -203,12 +213,28 @@ impl Parts {
         false
     }
 
-    /// Whether a work is outstanding, and none that is can be done. Works are not built.
+    /// Whether a work is outstanding, every such work is general, and at least so many helpers are granted and not
+    /// ended. No work is outstanding, as works are not built.
     pub fn is_stuck(&self, threads: u32) -> bool
-        ensures { result ≡ (not (is_empty_list self.now.plain.works) && is_stuck threads self.now.plain) }
+        ensures { result ≡ is_stuck threads self.now.plain }
     {
         let _trace = &self.trace;
         false
+    }
+
+    /// So many askers are left.
+    pub fn set_left(&mut self, left: u32)
+        ensures { self.new ≡ doing (with_left left) self.old }
+    {
+        self.left = left;
+    }
+
+    /// Whether every asker that is left waits for an answer. No request has arrived, as requests are not built.
+    pub fn is_quiet(&self) -> bool
+        ensures quiet { result ≡ is_quiet self.now.plain }
+        ensures none_left { self.now.plain.left ≡ 0 → result ≡ true }
+    {
+        self.left == 0
     }
 
     /// A cycle begins. No yield is pending and no alarm is due, as neither is built; so there is a job to pick then
@@ -233,7 +259,8 @@ impl Parts {
 
     /// A number whose name was drawn was drawn.
     pub fn check_drawn(&self, i: IvarNo)
-        ensures { name_in self.now.names i < length self.now.plain.cells.ivars → i < length self.now.plain.cells.ivars }
+        ensures { name_in self.now.names i < length self.now.plain.cells.ivars
+            → i < length self.now.plain.cells.ivars }
     {
         let _cells = &self.cells;
     }
@@ -263,7 +290,8 @@ impl Parts {
     /// The value of an atom.
     pub fn value_at(&self, vals: &Vals, atom: NumAtom) -> Value
         requires { IsBound (length (named self.now vals.now)) atom }
-        ensures { value_mapped (name_in self.now.names) result ≡ value_of (named self.now vals.now) atom }
+        ensures { value_mapped (name_in self.now.names) result
+            ≡ value_of (named self.now vals.now) atom }
     {
         match atom {
             NumAtom::Literal(num) => Value::Num(num),
@@ -274,7 +302,8 @@ impl Parts {
     /// The values of arguments, in a list with room for one more.
     pub fn args_at(&self, alloc: Global, vals: &Vals, args: &NumArgs) -> Result<Vals, NoMemory>
         requires { AreBound (named self.now vals.now) args.now }
-        ensures { IfOk result (λ values. values_mapped (name_in self.now.names) values ≡ args_of (named self.now vals.now) args.now) }
+        ensures { IfOk result (λ values. values_mapped (name_in self.now.names) values
+            ≡ args_of (named self.now vals.now) args.now) }
     {
         let mut values = Vec::with_capacity(alloc, args.len() + 1)?;
         for atom in args.as_slice() {
@@ -291,7 +320,8 @@ fn push_job(
     ctx: Ctx,
     task: Task,
 ) -> Result<(), NoMemory>
-    ensures { OnOk result ((s : State) → with_jobs queues.new.queues trace.new s ≡ enqueue ctx task (with_jobs queues.old.queues trace.old s)) }
+    ensures { OnOk result ((s : State) → with_jobs queues.new.queues trace.new s
+        ≡ enqueue ctx task (with_jobs queues.old.queues trace.old s)) }
 {
     let low = ctx.low;
     queues.reserve(1)?;
@@ -306,7 +336,8 @@ fn push_woken(
     trace: &mut Trace,
     woken: Woken<Frame>,
 ) -> Result<(), NoMemory>
-    ensures { OnOk result ((s : State) → with_jobs queues.new.queues trace.new s ≡ enqueued_for (with_jobs queues.old.queues trace.old s) woken) }
+    ensures { OnOk result ((s : State) → with_jobs queues.new.queues trace.new s
+        ≡ enqueued_for (with_jobs queues.old.queues trace.old s) woken) }
 {
     let Woken { ctx, num, frame } = woken;
     push_job(
@@ -330,7 +361,9 @@ fn note_fill(
     num: Num,
 ) -> Result<(), NoMemory>
     ensures cells { cells.new.named ≡ record cells.old.named { woken = [] } }
-    ensures jobs { OnOk result ((s : State) → with_jobs queues.new.queues trace.new s ≡ fold enqueued_for (with_jobs queues.old.queues (trace.old ++ Entry.Fill ivar num ∷ []) s) cells.old.named.woken) }
+    ensures jobs { OnOk result ((s : State) → with_jobs queues.new.queues trace.new s
+        ≡ fold enqueued_for (with_jobs queues.old.queues (trace.old ++ Entry.Fill ivar num ∷ []) s)
+        cells.old.named.woken) }
 {
     match trace.push(Entry::Fill { ivar, num }) {
         Ok(()) => wake_all(cells, queues, trace),
@@ -348,7 +381,8 @@ fn wake_all(
     trace: &mut Trace,
 ) -> Result<(), NoMemory>
     ensures cells { cells.new.named ≡ record cells.old.named { woken = [] } }
-    ensures jobs { OnOk result ((s : State) → with_jobs queues.new.queues trace.new s ≡ fold enqueued_for (with_jobs queues.old.queues trace.old s) cells.old.named.woken) }
+    ensures jobs { OnOk result ((s : State) → with_jobs queues.new.queues trace.new s
+        ≡ fold enqueued_for (with_jobs queues.old.queues trace.old s) cells.old.named.woken) }
 {
     while let Some(woken) = cells.next_woken() {
         match push_woken(queues, trace, woken) {

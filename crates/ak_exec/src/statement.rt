@@ -46,7 +46,9 @@ fn set(
 ) -> Result<Step, NoMemory>
     requires left { IsNumAt (named parts.old vals.old) a }
     requires right { IsNumAt (named parts.old vals.old) b }
-    ensures takes { IfOk result (λ step. Takes (effect_of ctx (NumStmt.Set x a op b) parts.old.plain (named parts.old vals.old)) step parts.old parts.new vals.new) }
+    ensures takes { IfOk result (λ step.
+        Takes (effect_of ctx (NumStmt.Set x a op b) parts.old.plain (named parts.old vals.old))
+        step parts.old parts.new vals.new) }
     ensures names { OnOk result (parts.new.names ≡ parts.old.names) }
 {
     let left = parts.number_at(vals, a);
@@ -63,7 +65,9 @@ fn set(
 
 fn print(parts: &mut Parts, ctx: Ctx, vals: &Vals, a: NumAtom) -> Result<Step, NoMemory>
     requires { IsNumAt (named parts.old vals.now) a }
-    ensures takes { IfOk result (λ step. Takes (effect_of ctx (NumStmt.Print a) parts.old.plain (named parts.old vals.now)) step parts.old parts.new vals.now) }
+    ensures takes { IfOk result (λ step.
+        Takes (effect_of ctx (NumStmt.Print a) parts.old.plain (named parts.old vals.now))
+        step parts.old parts.new vals.now) }
     ensures names { OnOk result (parts.new.names ≡ parts.old.names) }
 {
     let num = parts.number_at(vals, a);
@@ -72,7 +76,9 @@ fn print(parts: &mut Parts, ctx: Ctx, vals: &Vals, a: NumAtom) -> Result<Step, N
 }
 
 fn ivar(parts: &mut Parts, ctx: Ctx, vals: &mut Vals, i: usize) -> Result<Step, NoMemory>
-    ensures takes { IfOk result (λ step. Takes (effect_of ctx (NumStmt.Ivar i) parts.old.plain (named parts.old vals.old)) step parts.old parts.new vals.new) }
+    ensures takes { IfOk result (λ step.
+        Takes (effect_of ctx (NumStmt.Ivar i) parts.old.plain (named parts.old vals.old))
+        step parts.old parts.new vals.new) }
     ensures names { OnOk result (parts.new.names ≡ parts.old.names) }
 {
     let ivar = parts.fresh()?;
@@ -81,7 +87,9 @@ fn ivar(parts: &mut Parts, ctx: Ctx, vals: &mut Vals, i: usize) -> Result<Step, 
 }
 
 fn never(parts: &mut Parts, ctx: Ctx, vals: &mut Vals, r: usize) -> Result<Step, NoMemory>
-    ensures takes { IfOk result (λ step. Takes (effect_of ctx (NumStmt.Never r) parts.old.plain (named parts.old vals.old)) step parts.old parts.new vals.new) }
+    ensures takes { IfOk result (λ step.
+        Takes (effect_of ctx (NumStmt.Never r) parts.old.plain (named parts.old vals.old))
+        step parts.old parts.new vals.new) }
     ensures names { OnOk result (parts.new.names ≡ parts.old.names) }
 {
     let result = parts.fresh()?;
@@ -92,7 +100,9 @@ fn never(parts: &mut Parts, ctx: Ctx, vals: &mut Vals, r: usize) -> Result<Step,
 fn fill(parts: &mut Parts, ctx: Ctx, vals: &Vals, i: usize, a: NumAtom) -> Result<Step, NoMemory>
     requires deferred { IsDeferredAt parts.old.plain (named parts.old vals.now) i }
     requires number { IsNumAt (named parts.old vals.now) a }
-    ensures takes { IfOk result (λ step. Takes (effect_of ctx (NumStmt.Fill i a) parts.old.plain (named parts.old vals.now)) step parts.old parts.new vals.now) }
+    ensures takes { IfOk result (λ step.
+        Takes (effect_of ctx (NumStmt.Fill i a) parts.old.plain (named parts.old vals.now))
+        step parts.old parts.new vals.now) }
     ensures names { OnOk result (parts.new.names ≡ parts.old.names) }
 {
     let ivar = parts.deferred_at(vals, i);
@@ -107,7 +117,9 @@ fn fill(parts: &mut Parts, ctx: Ctx, vals: &Vals, i: usize, a: NumAtom) -> Resul
 fn offer(parts: &mut Parts, ctx: Ctx, vals: &Vals, i: usize, a: NumAtom) -> Result<Step, NoMemory>
     requires deferred { IsDeferredAt parts.old.plain (named parts.old vals.now) i }
     requires number { IsNumAt (named parts.old vals.now) a }
-    ensures takes { IfOk result (λ step. Takes (effect_of ctx (NumStmt.Offer i a) parts.old.plain (named parts.old vals.now)) step parts.old parts.new vals.now) }
+    ensures takes { IfOk result (λ step.
+        Takes (effect_of ctx (NumStmt.Offer i a) parts.old.plain (named parts.old vals.now))
+        step parts.old parts.new vals.now) }
     ensures names { OnOk result (parts.new.names ≡ parts.old.names) }
 {
     let ivar = parts.deferred_at(vals, i);
@@ -127,7 +139,9 @@ fn upon(
 ) -> Result<Step, NoMemory>
     requires deferred { IsDeferredAt parts.old.plain (named parts.old vals.now) d }
     requires args { AreBound (named parts.old vals.now) args.now }
-    ensures takes { IfOk result (λ step. Takes (effect_of ctx (NumStmt.Upon d proc args.now) parts.old.plain (named parts.old vals.now)) step parts.old parts.new vals.now) }
+    ensures takes { IfOk result (λ step.
+        Takes (effect_of ctx (NumStmt.Upon d proc args.now) parts.old.plain
+        (named parts.old vals.now)) step parts.old parts.new vals.now) }
     ensures names { OnOk result (parts.new.names ≡ parts.old.names) }
 {
     let ivar = parts.deferred_at(vals, d);
@@ -156,7 +170,9 @@ fn bind(
 ) -> Result<Step, NoMemory>
     requires deferred { IsDeferredAt parts.old.plain (named parts.old vals.old) d }
     requires args { AreBound (named parts.old vals.old) args.now }
-    ensures takes { IfOk result (λ step. Takes (effect_of ctx (NumStmt.Bind r d proc args.now) parts.old.plain (named parts.old vals.old)) step parts.old parts.new vals.new) }
+    ensures takes { IfOk result (λ step.
+        Takes (effect_of ctx (NumStmt.Bind r d proc args.now) parts.old.plain
+        (named parts.old vals.old)) step parts.old parts.new vals.new) }
     ensures names { OnOk result (parts.new.names ≡ parts.old.names) }
 {
     let ivar = parts.deferred_at(vals, d);
@@ -185,7 +201,9 @@ fn call(
     args: &NumArgs,
 ) -> Result<Step, NoMemory>
     requires { AreBound (named parts.old vals.now) args.now }
-    ensures takes { IfOk result (λ step. Takes (Goes (called ctx proc (args_of (named parts.old vals.now) args.now) Ret.Drop parts.old.plain) (named parts.old vals.now)) step parts.old parts.new vals.now) }
+    ensures takes { IfOk result (λ step.
+        Takes (Goes (called ctx proc (args_of (named parts.old vals.now) args.now) Ret.Drop
+        parts.old.plain) (named parts.old vals.now)) step parts.old parts.new vals.now) }
     ensures names { OnOk result (parts.new.names ≡ parts.old.names) }
 {
     let vals = parts.args_at(alloc, vals, args)?;
@@ -200,7 +218,9 @@ fn call(
 
 fn raise(parts: &mut Parts, ctx: Ctx, vals: &Vals, a: NumAtom) -> Result<Step, NoMemory>
     requires { IsNumAt (named parts.old vals.now) a }
-    ensures takes { IfOk result (λ step. Takes (effect_of ctx (NumStmt.Raise a) parts.old.plain (named parts.old vals.now)) step parts.old parts.new vals.now) }
+    ensures takes { IfOk result (λ step.
+        Takes (effect_of ctx (NumStmt.Raise a) parts.old.plain (named parts.old vals.now))
+        step parts.old parts.new vals.now) }
     ensures names { OnOk result (parts.new.names ≡ parts.old.names) }
 {
     Ok(Step::Raises(parts.number_at(vals, a)))
@@ -208,7 +228,9 @@ fn raise(parts: &mut Parts, ctx: Ctx, vals: &Vals, a: NumAtom) -> Result<Step, N
 
 fn ret(parts: &mut Parts, ctx: Ctx, vals: &Vals, a: NumAtom) -> Result<Step, NoMemory>
     requires { IsBound (length (named parts.old vals.now)) a }
-    ensures takes { IfOk result (λ step. Takes (effect_of ctx (NumStmt.Ret a) parts.old.plain (named parts.old vals.now)) step parts.old parts.new vals.now) }
+    ensures takes { IfOk result (λ step.
+        Takes (effect_of ctx (NumStmt.Ret a) parts.old.plain (named parts.old vals.now))
+        step parts.old parts.new vals.now) }
     ensures names { OnOk result (parts.new.names ≡ parts.old.names) }
 {
     Ok(Step::Returns(parts.value_at(vals, a)))
@@ -223,7 +245,9 @@ pub fn run_statement(
     vals: &mut Vals,
 ) -> Result<Step, NoMemory>
     requires { IsReady parts.old.plain (named parts.old vals.old) stmt.now }
-    ensures takes { IfOk result (λ step. Takes (effect_of ctx stmt.now parts.old.plain (named parts.old vals.old)) step parts.old parts.new vals.new) }
+    ensures takes { IfOk result (λ step.
+        Takes (effect_of ctx stmt.now parts.old.plain (named parts.old vals.old))
+        step parts.old parts.new vals.new) }
     ensures names { OnOk result (parts.new.names ≡ parts.old.names) }
 {
     match stmt {

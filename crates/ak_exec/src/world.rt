@@ -1,21 +1,22 @@
 //! The scheduler's state with its program, and the calls that a cycle is made of.
 
-ghost use Rattle.std.specs.Prelude.{◌≡◌, ◌≤◌, ◌<◌, not, IsSome, None, OnOk, OnErr, IfOk, ◌&&◌, nat_le, false};
+ghost use Rattle.std.specs.Prelude.{◌≡◌, ◌≤◌, ◌<◌, not, IsSome, None, OnOk, OnErr, IfOk, nat_le, false, true};
 ghost use Rattle.std.specs.Option.{option_map};
 ghost use Rattle.ak_base.specs.Lists.{is_empty_list};
 ghost use Rattle.ak_rings.specs.Queues.{pick_of, has_pick};
-ghost use Rattle.ak_machine.specs.Cycle.{cycle_begun, has_more, is_stuck};
+ghost use Rattle.ak_machine.specs.Cycle.{cycle_begun, has_more, is_stuck, is_quiet, with_left};
 ghost use Rattle.ak_machine.specs.Deferred.{noting};
 ghost use Rattle.ak_exec.specs.Built.{AreBuilt};
 ghost use Rattle.ak_exec.specs.Steps.{Ends};
-ghost use Rattle.ak_exec.specs.Worlds.{with_pick, with_state, first_state, RunsJob};
+ghost use Rattle.ak_exec.specs.Worlds.{with_pick, with_state, first_state, ServesAskers, RunsJob};
 
 use crate::job::run_job;
 use crate::parts::Parts;
 use ak_base::list::{Items, NoMemory};
 use ak_base::number::{Ctx, JobNo, MonNo};
 use ak_frames::frame::{Frame, Ret, Task};
-use ak_machine::config::{Config, Flow};
+use ak_labor::config::Config;
+use ak_machine::flow::Flow;
 use ak_program::program::Program;
 use ak_rings::job::Job;
 use ak_trace::entry::{Ending, Entry, Trace};
@@ -46,7 +47,8 @@ impl Model for World {
 
 impl World {
     /// The world of a program whose statements are built. The call of `main` is enqueued as job 0 in the root
-    /// monitor, at normal priority. At most `config.limit` jobs of a priority run in a cycle, which is at least 1.
+    /// monitor, at normal priority. At most `config.limit` jobs of a priority run in a cycle, which is at least 1. There
+    /// are `config.askers` askers, which are at most 16, and 0 where the program has no procedure `ask`.
     ///
     /// # Errors
     ///
@@ -54,9 +56,17 @@ impl World {
     pub fn make(alloc: Global, program: Program, config: Config) -> Result<World, NoMemory>
         requires built { AreBuilt program.procs }
         requires limit { 1 ≤ config.limit }
-        ensures world { IfOk result (λ world. world ≡ record { program = program; config = config; plain = first_state program config; picked = None; ran = 0 }) }
+        requires askers { ServesAskers program config.askers }
+        ensures world { IfOk result (λ world. world
+            ≡ record {
+              program = program;
+              config = config;
+              plain = first_state program config;
+              picked = None;
+              ran = 0;
+            }) }
     {
-        let mut parts = Parts::make(alloc, config.limit);
+        let mut parts = Parts::make(alloc, config.limit, config.askers);
         let ctx = Ctx {
             mon: MonNo::new(0),
             low: false,
@@ -121,7 +131,8 @@ pub fn run_frame(world: &mut World) -> Result<Flow, NoMemory>
     requires picked { IsSome world.old.picked }
     ensures runs { IfOk result (λ flow. RunsJob world.old flow world.new.plain) }
     ensures told { IfOk result (λ flow. Ends flow world.new.plain.trace) }
-    ensures world { OnOk result (world.new ≡ record world.old { plain = world.new.plain; picked = None }) }
+    ensures world { OnOk result (world.new
+        ≡ record world.old { plain = world.new.plain; picked = None }) }
 {
     // For the proof alone: its contract says that the program is sound.
     let _main = world.program.main();
@@ -131,7 +142,7 @@ pub fn run_frame(world: &mut World) -> Result<Flow, NoMemory>
     match run_job(world.alloc, &world.program, &mut world.parts, job) {
         Ok(flow) => Ok(flow),
         Err(e) => {
-            world.parts = Parts::make(world.alloc, world.config.limit);
+            world.parts = Parts::make(world.alloc, world.config.limit, world.config.askers);
             Err(e)
         }
     }
@@ -167,11 +178,26 @@ pub fn outstanding(world: &World) -> bool
 }
 
 /// Whether a work is outstanding, every such work is general, and at least as many helpers as there are threads are
-/// granted and not ended. Works are not built.
+/// granted and not ended. No work is outstanding, as works are not built.
 pub fn stuck(world: &World) -> bool
-    ensures { result ≡ (not (is_empty_list world.now.plain.works) && is_stuck world.now.config.threads world.now.plain) }
+    ensures { result ≡ is_stuck world.now.config.threads world.now.plain }
 {
     world.parts.is_stuck(world.config.threads)
+}
+
+/// Keeps how many askers are left, as the last reply to a drain says.
+pub fn set_left(world: &mut World, left: u32)
+    ensures { world.new ≡ with_state (with_left left world.old.plain) world.old }
+{
+    world.parts.set_left(left);
+}
+
+/// Whether every asker that is left waits for an answer. No request has arrived, as requests are not built.
+pub fn quiet(world: &World) -> bool
+    ensures quiet { result ≡ is_quiet world.now.plain }
+    ensures none_left { world.now.plain.left ≡ 0 → result ≡ true }
+{
+    world.parts.is_quiet()
 }
 
 /// Writes why the run ends.
@@ -180,7 +206,8 @@ pub fn stuck(world: &World) -> bool
 ///
 /// `NoMemory`. The world is then as before.
 pub fn finish(world: &mut World, why: Ending) -> Result<(), NoMemory>
-    ensures ok { OnOk result (world.new ≡ with_state (noting (Entry.End why) world.old.plain) world.old) }
+    ensures ok { OnOk result (world.new
+        ≡ with_state (noting (Entry.End why) world.old.plain) world.old) }
     ensures err { OnErr result (world.new ≡ world.old) }
 {
     world.parts.note(Entry::End { why })?;

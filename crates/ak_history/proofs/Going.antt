@@ -2,8 +2,7 @@
 use Rattle.std.proofs.Common.{◌≡◌, ℕ, suc, ◌+◌, ◌≤◌, Bool, true, false, cond, Option, Some, Result, Ok, Err, List, [], ◌∷◌, length, refl, sym, ap, ◌∙◌, subst, arith}
 use Rattle.std.proofs.lemmas.List.{length-map}
 use Rattle.std.specs.List.{before_first, onto_first}
-use Rattle.ak_text.specs.Lines.{TextLine, numbered, lines_of, text_lines, begins_comment, pieces, is_line_feed}
-use Rattle.ak_row.specs.Places.{counts}
+use Rattle.ak_text.specs.Lines.{TextLine, numbered, lines_of, text_lines, begins_comment, pieces, is_line_feed, counts}
 use Rattle.ak_row.specs.Parts.{row_words}
 use Rattle.ak_history.specs.declared.reading.Recorded.{Recorded}
 use Rattle.ak_history.specs.declared.refusal.HistoryRefused.{HistoryRefused}

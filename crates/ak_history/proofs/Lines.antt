@@ -1,21 +1,21 @@
 -- The lines of a history, read from the front, and the laws of their text.
-use Rattle.std.proofs.Common.{◌≡◌, ℕ, zero, suc, ◌+◌, List, [], ◌∷◌, ◌++◌, map, flat_map, replicate, refl, ap, sym, subst, ◌∙◌, append_assoc, append-nil, add-one, codes, Option, get_or, length, drop, ◌<◌, ◌≤◌}
+use Rattle.std.proofs.Common.{◌≡◌, ◌==◌, ℕ, zero, suc, false, ◌+◌, List, [], ◌∷◌, ◌++◌, map, flat_map, replicate, refl, ap, sym, subst, ◌∙◌, append_assoc, append-nil, add-one, codes, Option, get_or, length, drop, ◌<◌, ◌≤◌}
 use Rattle.std.proofs.Math.Seq.{drop-cons}
 use Rattle.std.proofs.lemmas.List.{drop_all}
 use Rattle.std.specs.Fmt.{decimal}
 use Rattle.ak_base.specs.Streams.{Passes, TookBeginning}
-use Rattle.ak_base.proofs.Passing.{Toward, toward-start, toward-then, toward-fault, toward-end, toward-end_fault}
+use Rattle.ak_base.proofs.Passing.{beginning-of_more, passes-then, passes-then_fault, Toward, toward-start, toward-then, toward-fault, toward-end, toward-end_fault}
 use Rattle.ak_print.specs.Line.{line_text}
 use Rattle.ak_history.specs.declared.event.Event.{Event}
 use Rattle.ak_history.specs.declared.event.Event.TheVariants as event
 use Rattle.ak_history.specs.declared.line.HistoryLine.{HistoryLine}
 use Rattle.ak_history.specs.declared.line.HistoryLine.TheVariants.{Idle, Of}
 use Rattle.ak_history.specs.Reading.{rows_events}
-use Rattle.ak_history.specs.Text.{with_event, history_lines, event_text, idle_text, history_line_text, history_text, id_text}
+use Rattle.ak_history.specs.Text.{with_event, history_lines, request_words, event_text, idle_text, history_line_text, history_text, id_text, requests_text}
 
 -- an empty drain
 abbrev pub idle : Event
-idle = event.Drain []
+idle = event.Drain [] []
 
 -- the lines with so many empty drains in front
 abbrev pub idle_in_front : ℕ → List HistoryLine → List HistoryLine
@@ -34,8 +34,12 @@ pub with_event-other : (e : Event) (lines : List HistoryLine) → (e ≡ idle �
 with_event-other (event.Submit id work helper) lines h = refl
 with_event-other (event.Start thread id) lines h = refl
 with_event-other (event.Finish thread id outcome) lines h = refl
-with_event-other (event.Drain []) lines h = absurd (h refl)
-with_event-other (event.Drain (id ∷ ids)) lines h = refl
+with_event-other (event.Request q asker n) lines h = refl
+with_event-other (event.AskerEnd asker) lines h = refl
+with_event-other (event.Drain [] []) lines h = absurd (h refl)
+with_event-other (event.Drain [] (q ∷ requests)) lines h = refl
+with_event-other (event.Drain (id ∷ ids) requests) lines h = refl
+with_event-other (event.Answered q n) lines h = refl
 with_event-other (event.HelperNew helper answer) lines h = refl
 with_event-other (event.HelperEnd helper) lines h = refl
 with_event-other event.Close lines h = refl
@@ -101,10 +105,14 @@ pub events-in_front : (e : Event) (lines : List HistoryLine)
 events-in_front (event.Submit id work helper) lines = refl
 events-in_front (event.Start thread id) lines = refl
 events-in_front (event.Finish thread id outcome) lines = refl
-events-in_front (event.Drain []) [] = refl
-events-in_front (event.Drain []) (Idle n ∷ lines) = ap (λ (k : ℕ). replicate k idle ++ rows_events lines) (add-one n)
-events-in_front (event.Drain []) (Of e ∷ lines) = refl
-events-in_front (event.Drain (id ∷ ids)) lines = refl
+events-in_front (event.Request q asker n) lines = refl
+events-in_front (event.AskerEnd asker) lines = refl
+events-in_front (event.Drain [] []) [] = refl
+events-in_front (event.Drain [] []) (Idle n ∷ lines) = ap (λ (k : ℕ). replicate k idle ++ rows_events lines) (add-one n)
+events-in_front (event.Drain [] []) (Of e ∷ lines) = refl
+events-in_front (event.Drain [] (q ∷ requests)) lines = refl
+events-in_front (event.Drain (id ∷ ids) requests) lines = refl
+events-in_front (event.Answered q n) lines = refl
 events-in_front (event.HelperNew helper answer) lines = refl
 events-in_front (event.HelperEnd helper) lines = refl
 events-in_front event.Close lines = refl
@@ -114,67 +122,98 @@ pub lines-stand_for : (events : List Event) → rows_events (history_lines event
 lines-stand_for [] = refl
 lines-stand_for (e ∷ events) = events-in_front e (history_lines events) ∙ ap (λ (es : List Event). e ∷ es) (lines-stand_for events)
 
--- the line of numbers behind a word
-pub line-of_numbers : (word : List ℕ) (ids : List ℕ)
-    → line_text (word ∷ map decimal ids) ≡ word ++ (flat_map id_text ids ++ 10 ∷ [])
-line-of_numbers word [] = refl
-line-of_numbers word (id ∷ ids) =
-    ap (λ (rest : List ℕ). word ++ 32 ∷ rest)
-    (line-of_numbers (decimal id) ids ∙ sym (append_assoc (decimal id) (flat_map id_text ids) (10 ∷ [])))
+-- a word behind a space
+abbrev word_text : List ℕ → List ℕ
+word_text word = 32 ∷ word
 
--- The line of a drain is put in three pieces: its word, the numbers, its end.
+line-of_words : (word : List ℕ) (words : List (List ℕ)) → line_text (word ∷ words) ≡ word ++ (flat_map word_text words ++ 10 ∷ [])
+line-of_words word [] = refl
+line-of_words word (next ∷ words) =
+    ap (λ (rest : List ℕ). word ++ 32 ∷ rest)
+    (line-of_words next words ∙ sym (append_assoc next (flat_map word_text words) (10 ∷ [])))
+
+ids-words : (ids : List ℕ) → flat_map word_text (map decimal ids) ≡ flat_map id_text ids
+ids-words [] = refl
+ids-words (id ∷ ids) = ap (λ (rest : List ℕ). 32 ∷ (decimal id ++ rest)) (ids-words ids)
+
+requests-words : (requests : List ℕ) → flat_map word_text (request_words requests) ≡ requests_text requests
+requests-words [] = refl
+requests-words (q ∷ requests) = ap (λ (rest : List ℕ). codes " requests" ++ rest) (ids-words (q ∷ requests))
+
+brought-words : (ids requests : List ℕ) → flat_map word_text (map decimal ids ++ request_words requests) ≡ flat_map id_text ids ++ requests_text requests
+brought-words [] requests = requests-words requests
+brought-words (id ∷ ids) requests =
+    ap (λ (rest : List ℕ). 32 ∷ (decimal id ++ rest)) (brought-words ids requests)
+    ∙ sym (append_assoc (id_text id) (flat_map id_text ids) (requests_text requests))
+
+-- The requests of a drain are put in two pieces: their word, their numbers.
+abbrev pub requests_word : List ℕ
+requests_word = codes " requests"
+
+requests-some : (requests : List ℕ) → (length requests == 0) ≡ false → requests_text requests ≡ requests_word ++ flat_map id_text requests
+requests-some [] h = cc
+requests-some (q ∷ requests) h = refl
+
+pub requests-fault_1 : (t0 t1 : Option (List ℕ)) (w requests : List ℕ) → (length requests == 0) ≡ false
+    → TookBeginning t0 t1 (w ++ requests_word) → TookBeginning t0 t1 (w ++ requests_text requests)
+requests-fault_1 t0 t1 w requests some p =
+    subst (λ (bytes : List ℕ). TookBeginning t0 t1 bytes)
+    (append_assoc w requests_word (flat_map id_text requests) ∙ ap (λ (rest : List ℕ). w ++ rest) (sym (requests-some requests some)))
+    (beginning-of_more t0 t1 (w ++ requests_word) (flat_map id_text requests) p)
+
+pub requests-fault_2 : (t0 t1 t2 : Option (List ℕ)) (w0 w1 requests : List ℕ) → (length requests == 0) ≡ false
+    → Passes t0 t1 w0 w1 requests_word → TookBeginning t1 t2 (w1 ++ flat_map id_text requests)
+    → TookBeginning t0 t2 (w0 ++ requests_text requests)
+requests-fault_2 t0 t1 t2 w0 w1 requests some p q =
+    subst (λ (bytes : List ℕ). TookBeginning t0 t2 (w0 ++ bytes)) (sym (requests-some requests some))
+    (passes-then_fault t0 t1 t2 w0 w1 requests_word (flat_map id_text requests) p q)
+
+pub requests-pass : (t0 t1 t2 : Option (List ℕ)) (w0 w1 w2 requests : List ℕ) → (length requests == 0) ≡ false
+    → Passes t0 t1 w0 w1 requests_word → Passes t1 t2 w1 w2 (flat_map id_text requests)
+    → Passes t0 t2 w0 w2 (requests_text requests)
+requests-pass t0 t1 t2 w0 w1 w2 requests some p q =
+    subst (λ (bytes : List ℕ). Passes t0 t2 w0 w2 bytes) (sym (requests-some requests some))
+    (passes-then t0 t1 t2 w0 w1 w2 requests_word (flat_map id_text requests) p q)
+
+-- The line of a drain is put in four pieces: its word, its works, its requests, its end.
 abbrev pub drain_word : List ℕ
 drain_word = codes "drain"
 
-pub drain-line : (ids : List ℕ) → event_text (event.Drain ids) ≡ drain_word ++ (flat_map id_text ids ++ 10 ∷ [])
-drain-line ids = line-of_numbers drain_word ids
+abbrev pub drain_end : List ℕ → List ℕ
+drain_end requests = requests_text requests ++ 10 ∷ []
 
-pub drain-start : (t0 : Option (List ℕ)) (w0 : List ℕ) (ids : List ℕ)
-    → Toward t0 t0 w0 w0 (drain_word ++ (flat_map id_text ids ++ 10 ∷ [])) (event_text (event.Drain ids))
-drain-start t0 w0 ids =
-    subst (λ (bytes : List ℕ). Toward t0 t0 w0 w0 bytes (event_text (event.Drain ids))) (drain-line ids)
-    (toward-start t0 w0 (event_text (event.Drain ids)))
+pub drain-line : (ids requests : List ℕ) → event_text (event.Drain ids requests) ≡ drain_word ++ (flat_map id_text ids ++ drain_end requests)
+drain-line ids requests =
+    line-of_words drain_word (map decimal ids ++ request_words requests)
+    ∙ ap (λ (rest : List ℕ). drain_word ++ (rest ++ 10 ∷ [])) (brought-words ids requests)
+    ∙ ap (λ (rest : List ℕ). drain_word ++ rest) (append_assoc (flat_map id_text ids) (requests_text requests) (10 ∷ []))
 
-pub drain-fault_1 : (t0 t1 : Option (List ℕ)) (w0 : List ℕ) (ids : List ℕ)
-    → TookBeginning t0 t1 (w0 ++ drain_word)
-    → TookBeginning t0 t1 (w0 ++ event_text (event.Drain ids))
-drain-fault_1 t0 t1 w0 ids q =
-    toward-fault t0 t0 t1 w0 w0 drain_word (flat_map id_text ids ++ 10 ∷ []) (event_text (event.Drain ids)) (drain-start t0 w0 ids) q
+-- what is still to come of the line of a drain at its start, behind its word, behind its works and behind its requests
+pub drain-start : (t : Option (List ℕ)) (w : List ℕ) (ids requests : List ℕ)
+    → Toward t t w w (drain_word ++ (flat_map id_text ids ++ drain_end requests)) (event_text (event.Drain ids requests))
+drain-start t w ids requests =
+    subst (λ (bytes : List ℕ). Toward t t w w bytes (event_text (event.Drain ids requests))) (drain-line ids requests)
+    (toward-start t w (event_text (event.Drain ids requests)))
 
-pub drain-fault_2 : (t0 t1 t2 : Option (List ℕ)) (w0 w1 : List ℕ) (ids : List ℕ)
-    → Passes t0 t1 w0 w1 drain_word
-    → TookBeginning t1 t2 (w1 ++ flat_map id_text ids)
-    → TookBeginning t0 t2 (w0 ++ event_text (event.Drain ids))
-drain-fault_2 t0 t1 t2 w0 w1 ids p q =
-    toward-fault t0 t1 t2 w0 w1 (flat_map id_text ids) (10 ∷ []) (event_text (event.Drain ids))
-    (toward-then t0 t0 t1 w0 w0 w1 drain_word (flat_map id_text ids ++ 10 ∷ []) (event_text (event.Drain ids)) (drain-start t0 w0 ids) p)
-    q
+pub drain-works : (t0 t1 : Option (List ℕ)) (w0 w1 : List ℕ) (ids requests : List ℕ) → Passes t0 t1 w0 w1 drain_word
+    → Toward t0 t1 w0 w1 (flat_map id_text ids ++ drain_end requests) (event_text (event.Drain ids requests))
+drain-works t0 t1 w0 w1 ids requests p =
+    toward-then t0 t0 t1 w0 w0 w1 drain_word (flat_map id_text ids ++ drain_end requests) (event_text (event.Drain ids requests))
+    (drain-start t0 w0 ids requests) p
 
--- the word and the numbers are put
-pub drain-two : (t0 t1 t2 : Option (List ℕ)) (w0 w1 w2 : List ℕ) (ids : List ℕ)
-    → Passes t0 t1 w0 w1 drain_word
-    → Passes t1 t2 w1 w2 (flat_map id_text ids)
-    → Toward t0 t2 w0 w2 (10 ∷ []) (event_text (event.Drain ids))
-drain-two t0 t1 t2 w0 w1 w2 ids p q =
-    toward-then t0 t1 t2 w0 w1 w2 (flat_map id_text ids) (10 ∷ []) (event_text (event.Drain ids))
-    (toward-then t0 t0 t1 w0 w0 w1 drain_word (flat_map id_text ids ++ 10 ∷ []) (event_text (event.Drain ids)) (drain-start t0 w0 ids) p)
-    q
+pub drain-requests : (t0 t1 t2 : Option (List ℕ)) (w0 w1 w2 : List ℕ) (ids requests : List ℕ)
+    → Passes t0 t1 w0 w1 drain_word → Passes t1 t2 w1 w2 (flat_map id_text ids)
+    → Toward t0 t2 w0 w2 (drain_end requests) (event_text (event.Drain ids requests))
+drain-requests t0 t1 t2 w0 w1 w2 ids requests p q =
+    toward-then t0 t1 t2 w0 w1 w2 (flat_map id_text ids) (drain_end requests) (event_text (event.Drain ids requests))
+    (drain-works t0 t1 w0 w1 ids requests p) q
 
-pub drain-fault_3 : (t0 t1 t2 t3 : Option (List ℕ)) (w0 w1 w2 : List ℕ) (ids : List ℕ)
-    → Passes t0 t1 w0 w1 drain_word
-    → Passes t1 t2 w1 w2 (flat_map id_text ids)
-    → TookBeginning t2 t3 (w2 ++ 10 ∷ [])
-    → TookBeginning t0 t3 (w0 ++ event_text (event.Drain ids))
-drain-fault_3 t0 t1 t2 t3 w0 w1 w2 ids p q r =
-    toward-end_fault t0 t2 t3 w0 w2 (10 ∷ []) (event_text (event.Drain ids)) (drain-two t0 t1 t2 w0 w1 w2 ids p q) r
-
-pub drain-passes : (t0 t1 t2 t3 : Option (List ℕ)) (w0 w1 w2 w3 : List ℕ) (ids : List ℕ)
-    → Passes t0 t1 w0 w1 drain_word
-    → Passes t1 t2 w1 w2 (flat_map id_text ids)
-    → Passes t2 t3 w2 w3 (10 ∷ [])
-    → Passes t0 t3 w0 w3 (event_text (event.Drain ids))
-drain-passes t0 t1 t2 t3 w0 w1 w2 w3 ids p q r =
-    toward-end t0 t2 t3 w0 w2 w3 (10 ∷ []) (event_text (event.Drain ids)) (drain-two t0 t1 t2 w0 w1 w2 ids p q) r
+pub drain-last : (t0 t1 t2 t3 : Option (List ℕ)) (w0 w1 w2 w3 : List ℕ) (ids requests : List ℕ)
+    → Passes t0 t1 w0 w1 drain_word → Passes t1 t2 w1 w2 (flat_map id_text ids) → Passes t2 t3 w2 w3 (requests_text requests)
+    → Toward t0 t3 w0 w3 (10 ∷ []) (event_text (event.Drain ids requests))
+drain-last t0 t1 t2 t3 w0 w1 w2 w3 ids requests p q r =
+    toward-then t0 t2 t3 w0 w2 w3 (requests_text requests) (10 ∷ []) (event_text (event.Drain ids requests))
+    (drain-requests t0 t1 t2 w0 w1 w2 ids requests p q) r
 
 -- The text goes on from an event.
 pub text-at : (n : ℕ) (es : List Event) (i : ℕ) (x : Event) → x ≡ get_or es i x → i < length es

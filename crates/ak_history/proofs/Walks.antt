@@ -3,8 +3,8 @@
 use Rattle.std.proofs.Common.{◌≡◌, ℕ, zero, suc, ◌+◌, ◌<◌, ◌≤◌, Bool, true, false, nat_le, cond, Option, Some, None, Result, Ok, Err, List, [], ◌∷◌, ◌++◌, length, filter, replicate, refl, sym, ap, ◌∙◌, subst, arith, append_assoc, length-append}
 use Rattle.std.proofs.lemmas.List.{append-nil}
 use Rattle.std.specs.List.{AllZip}
-use Rattle.ak_text.specs.Lines.{TextLine, words_of, has_bad_byte}
-use Rattle.ak_row.specs.Places.{Stands, counts}
+use Rattle.ak_text.specs.Lines.{TextLine, words_of, has_bad_byte, counts}
+use Rattle.ak_row.specs.Places.{Stands}
 use Rattle.ak_row.specs.Parts.{◌>>=◌, row_words}
 use Rattle.ak_row.proofs.Parts.{some_is, bind_some, bind_is}
 use Rattle.ak_history.specs.declared.event.Event.{Event}
@@ -30,13 +30,13 @@ found_reads line row h =
     let found = line_sound w.0 row w.2 in
     record {
       words = record { good = is.0; words = subst (λ (ws : List (List ℕ)). AllZip Stands (line_row row) ws) (sym is.1) found.row };
-      works = found.works;
+      brings = found.brings;
     }
 
 -- a line is found
 pub found_is : (line : TextLine) (row : HistoryLine) → IsHistoryLine row line → line_found line ≡ Some row
 unfolding line_found row_words
-found_is line row h = rw (h.words.good) (line_complete row (words_of line.text) (record { row = h.words.words; works = h.works }))
+found_is line row h = rw (h.words.good) (line_complete row (words_of line.text) (record { row = h.words.words; brings = h.brings }))
 
 -- one line of a text is one line of a history
 pub one_line : (line : TextLine) (a b : HistoryLine) → IsHistoryLine a line → IsHistoryLine b line → a ≡ b
@@ -48,7 +48,7 @@ replicated zero x = refl
 replicated (suc n) x = ap suc (replicated n x)
 
 pub count_is : (row : HistoryLine) → length (line_events row) ≡ count_of_events row
-count_is (Idle n) = replicated n (event.Drain [])
+count_is (Idle n) = replicated n (event.Drain [] [])
 count_is (Of e) = refl
 
 -- the events of lines behind those that were read

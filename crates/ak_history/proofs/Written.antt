@@ -4,18 +4,18 @@ use Rattle.std.specs.Fmt.{decimal}
 use Rattle.std.specs.List.{AllZip, AllByRecursion}
 use Rattle.ak_labor.specs.declared.work.Outcome.{Outcome}
 use Rattle.ak_labor.specs.declared.work.Outcome.TheVariants.{Good, Bad}
-use Rattle.ak_text.specs.Lines.{TextLine, numbered, lines_of}
+use Rattle.ak_text.specs.Lines.{TextLine, numbered, lines_of, counts}
 use Rattle.ak_print.specs.Line.{line_text}
 use Rattle.ak_print.specs.Work.{outcome_words}
-use Rattle.ak_row.specs.Places.{Place, Thing, IsRow, counts, outcome_places}
+use Rattle.ak_row.specs.Places.{Place, Thing, LongNumber, IsRow, outcome_places}
 use Rattle.ak_row.specs.Plain.{place_word, row_text, IsPlainRow}
 use Rattle.ak_row.proofs.ReadBack.{rows_from, row_counts}
 use Rattle.ak_history.specs.declared.event.Event.{Event}
 use Rattle.ak_history.specs.declared.event.Event.TheVariants as event
 use Rattle.ak_history.specs.declared.line.HistoryLine.{HistoryLine}
 use Rattle.ak_history.specs.declared.line.HistoryLine.TheVariants.{Idle, Of}
-use Rattle.ak_history.specs.Reading.{submit_places, answer_places, event_row, line_row, NamesWorks, IsHistoryLine, rows_numbers, lines_from, HistoryReads, IsInRange, IsShortRun, IsReadable}
-use Rattle.ak_history.specs.Text.{with_event, history_lines, event_words, submit_words, answer_words, idle_text, history_line_text, history_text}
+use Rattle.ak_history.specs.Reading.{submit_places, answer_places, request_places, event_row, line_row, BringsSome, IsHistoryLine, rows_numbers, lines_from, HistoryReads, IsInRange, IsShortRun, IsReadable}
+use Rattle.ak_history.specs.Text.{with_event, history_lines, event_words, submit_words, answer_words, request_words, idle_text, history_line_text, history_text}
 use Rattle.ak_history.proofs.Lines.{lines-stand_for}
 
 -- ---- the words of a row
@@ -31,15 +31,26 @@ answer_are : (answer : Option ℕ) → map place_word (answer_places answer) ≡
 answer_are None = refl
 answer_are (Some thread) = refl
 
-ids_are : (ids : List ℕ) → map place_word (map Thing ids) ≡ map decimal ids
-ids_are [] = refl
-ids_are (id ∷ ids) = ap (λ (ws : List (List ℕ)). decimal id ∷ ws) (ids_are ids)
+longs_are : (requests : List ℕ) → map place_word (map LongNumber requests) ≡ map decimal requests
+longs_are [] = refl
+longs_are (q ∷ requests) = ap (λ (ws : List (List ℕ)). decimal q ∷ ws) (longs_are requests)
+
+requests_are : (requests : List ℕ) → map place_word (request_places requests) ≡ request_words requests
+requests_are [] = refl
+requests_are (q ∷ requests) = ap (λ (ws : List (List ℕ)). codes "requests" ∷ ws) (longs_are (q ∷ requests))
+
+brought_are : (ids requests : List ℕ) → map place_word (map Thing ids ++ request_places requests) ≡ map decimal ids ++ request_words requests
+brought_are [] requests = requests_are requests
+brought_are (id ∷ ids) requests = ap (λ (ws : List (List ℕ)). decimal id ∷ ws) (brought_are ids requests)
 
 event_are : (e : Event) → map place_word (event_row e) ≡ event_words e
 event_are (event.Submit id work helper) = ap (λ (ws : List (List ℕ)). codes "submit" ∷ decimal id ∷ ws) (submit_are helper _ _ refl)
 event_are (event.Start thread id) = refl
 event_are (event.Finish thread id outcome) = ap (λ (ws : List (List ℕ)). codes "finish" ∷ decimal thread ∷ decimal id ∷ ws) (outcome_are outcome)
-event_are (event.Drain ids) = ap (λ (ws : List (List ℕ)). codes "drain" ∷ ws) (ids_are ids)
+event_are (event.Request q asker n) = refl
+event_are (event.AskerEnd asker) = refl
+event_are (event.Drain ids requests) = ap (λ (ws : List (List ℕ)). codes "drain" ∷ ws) (brought_are ids requests)
+event_are (event.Answered q n) = refl
 event_are (event.HelperNew helper answer) = ap (λ (ws : List (List ℕ)). codes "helper" ∷ decimal helper ∷ ws) (answer_are answer)
 event_are (event.HelperEnd helper) = refl
 event_are event.Close = refl
@@ -48,16 +59,20 @@ event_are event.Close = refl
 -- a line that is written: a run of one drain at least, or another event
 abbrev pub IsWritten : HistoryLine → Type 0
 IsWritten (Idle n) = 1 ≤ n
-IsWritten (Of e) = NamesWorks (Of e)
+IsWritten (Of e) = BringsSome (Of e)
 
 written_front : (e : Event) (lines : List HistoryLine) → AllByRecursion IsWritten lines → AllByRecursion IsWritten (with_event e lines)
 written_front (event.Submit id work helper) lines h = (tt, h)
 written_front (event.Start thread id) lines h = (tt, h)
 written_front (event.Finish thread id outcome) lines h = (tt, h)
-written_front (event.Drain []) [] h = (omega arith, tt)
-written_front (event.Drain []) (Idle n ∷ lines) h = (omega arith, h.1)
-written_front (event.Drain []) (Of e ∷ lines) h = (omega arith, h)
-written_front (event.Drain (id ∷ ids)) lines h = (omega arith, h)
+written_front (event.Request q asker n) lines h = (tt, h)
+written_front (event.AskerEnd asker) lines h = (tt, h)
+written_front (event.Drain [] []) [] h = (omega arith, tt)
+written_front (event.Drain [] []) (Idle n ∷ lines) h = (omega arith, h.1)
+written_front (event.Drain [] []) (Of e ∷ lines) h = (omega arith, h)
+written_front (event.Drain [] (q ∷ requests)) lines h = (omega arith, h)
+written_front (event.Drain (id ∷ ids) requests) lines h = (omega arith, h)
+written_front (event.Answered q n) lines h = (tt, h)
 written_front (event.HelperNew helper answer) lines h = (tt, h)
 written_front (event.HelperEnd helper) lines h = (tt, h)
 written_front event.Close lines h = (tt, h)
@@ -75,10 +90,14 @@ range_front : (e : Event) (lines : List HistoryLine) → IsInRange e → AllByRe
 range_front (event.Submit id work helper) lines r h = (r, h)
 range_front (event.Start thread id) lines r h = (r, h)
 range_front (event.Finish thread id outcome) lines r h = (r, h)
-range_front (event.Drain []) [] r h = (tt, tt)
-range_front (event.Drain []) (Idle n ∷ lines) r h = (tt, h.1)
-range_front (event.Drain []) (Of e ∷ lines) r h = (tt, h)
-range_front (event.Drain (id ∷ ids)) lines r h = (r, h)
+range_front (event.Request q asker n) lines r h = (r, h)
+range_front (event.AskerEnd asker) lines r h = (r, h)
+range_front (event.Drain [] []) [] r h = (tt, tt)
+range_front (event.Drain [] []) (Idle n ∷ lines) r h = (tt, h.1)
+range_front (event.Drain [] []) (Of e ∷ lines) r h = (tt, h)
+range_front (event.Drain [] (q ∷ requests)) lines r h = (r, h)
+range_front (event.Drain (id ∷ ids) requests) lines r h = (r, h)
+range_front (event.Answered q n) lines r h = (r, h)
 range_front (event.HelperNew helper answer) lines r h = (r, h)
 range_front (event.HelperEnd helper) lines r h = (r, h)
 range_front event.Close lines r h = (r, h)
@@ -93,7 +112,10 @@ row_some (Idle n) = λ e. cc
 row_some (Of (event.Submit id work helper)) = λ e. cc
 row_some (Of (event.Start thread id)) = λ e. cc
 row_some (Of (event.Finish thread id outcome)) = λ e. cc
-row_some (Of (event.Drain ids)) = λ e. cc
+row_some (Of (event.Request q asker n)) = λ e. cc
+row_some (Of (event.AskerEnd asker)) = λ e. cc
+row_some (Of (event.Drain ids requests)) = λ e. cc
+row_some (Of (event.Answered q n)) = λ e. cc
 row_some (Of (event.HelperNew helper answer)) = λ e. cc
 row_some (Of (event.HelperEnd helper)) = λ e. cc
 row_some (Of event.Close) = λ e. cc
@@ -122,15 +144,15 @@ text_is (row ∷ rows) h =
     ∙ ap (λ (bytes : List ℕ). row_text (line_row row) ++ bytes) (text_is rows h.1)
 
 -- ---- they are read
-works_of : (row : HistoryLine) → IsWritten row → NamesWorks row
-works_of (Idle n) h = tt
-works_of (Of e) h = h
+brings_of : (row : HistoryLine) → IsWritten row → BringsSome row
+brings_of (Idle n) h = tt
+brings_of (Of e) h = h
 
 are_lines : (rows : List HistoryLine) (lines : List TextLine) → AllByRecursion IsWritten rows → AllZip IsRow (map line_row rows) lines → AllZip IsHistoryLine rows lines
 are_lines [] [] written h = tt
 are_lines [] (line ∷ lines) written h = absurd h
 are_lines (row ∷ rows) [] written h = absurd h
-are_lines (row ∷ rows) (line ∷ lines) written h = (record { words = h.0; works = works_of row written.0 }, are_lines rows lines written.1 h.1)
+are_lines (row ∷ rows) (line ∷ lines) written h = (record { words = h.0; brings = brings_of row written.0 }, are_lines rows lines written.1 h.1)
 
 -- none of the lines is skipped
 none_skipped : (rows : List HistoryLine) (lines : List TextLine) → AllZip IsRow (map line_row rows) lines → filter counts lines ≡ lines

@@ -1,6 +1,6 @@
--- What a list of events says: which works were handed in, begun, finished and fetched, and which helpers there are.
--- After Async's thread pool in outline, with the numbers own. Each is a filter or a count over the list.
-use Rattle.std.specs.Prelude.{ℕ, ◌-◌, zero, suc, List, [], ◌∷◌, ◌++◌, filter, find, map, count_by, Bool, true, false, not, ◌&&◌, ◌==◌, Option, Some, None, is_none, if◌then◌else◌}
+-- What a list of events says: which works were handed in, begun, finished and fetched, which helpers there are, and which
+-- requests were made, fetched and answered. After Async's thread pool in outline, with the numbers and the requests own. Each is a filter or a count over the list.
+use Rattle.std.specs.Prelude.{ℕ, ℤ, ◌-◌, zero, suc, List, [], ◌∷◌, ◌++◌, length, filter, find, map, count_by, Bool, true, false, not, ◌&&◌, ◌==◌, Option, Some, None, is_none, if◌then◌else◌}
 use Rattle.std.specs.Option.{option_map}
 use Rattle.std.specs.List.{filter_map, flat_map, list_any, list_all}
 use Rattle.ak_labor.specs.declared.work.Outcome.{Outcome}
@@ -18,6 +18,12 @@ pub record Reserved : Type 0 where
   pub helper : ℕ
   pub thread : ℕ
 
+-- a request: its number, its asker, and the number that it asks with
+pub record Asking : Type 0 where
+  pub no : ℕ
+  pub asker : ℕ
+  pub num : ℤ
+
 abbrev pub handed_in : Event → Option Handed
 handed_in (event.Submit id work helper) = Some (record { id = id; work = work; helper = helper })
 handed_in e = None
@@ -31,7 +37,7 @@ finished_in (event.Finish thread id outcome) = Some (id, outcome)
 finished_in e = None
 
 abbrev pub drained_in : Event → List ℕ
-drained_in (event.Drain ids) = ids
+drained_in (event.Drain ids requests) = ids
 drained_in e = []
 
 abbrev pub reserved_at : ℕ → Option ℕ → Option Reserved
@@ -46,6 +52,22 @@ abbrev pub ended_in : Event → Option ℕ
 ended_in (event.HelperEnd h) = Some h
 ended_in e = None
 
+abbrev pub asked_in : Event → Option Asking
+asked_in (event.Request q asker n) = Some (record { no = q; asker = asker; num = n })
+asked_in e = None
+
+abbrev pub fetched_in : Event → List ℕ
+fetched_in (event.Drain ids requests) = requests
+fetched_in e = []
+
+abbrev pub answered_in : Event → Option (ℕ × ℤ)
+answered_in (event.Answered q v) = Some (q, v)
+answered_in e = None
+
+abbrev pub left_in : Event → Option ℕ
+left_in (event.AskerEnd asker) = Some asker
+left_in e = None
+
 abbrev pub is_submit : Event → Bool
 is_submit (event.Submit id work helper) = true
 is_submit e = false
@@ -53,6 +75,14 @@ is_submit e = false
 abbrev pub is_helper_new : Event → Bool
 is_helper_new (event.HelperNew h answer) = true
 is_helper_new e = false
+
+abbrev pub is_asker_end : Event → Bool
+is_asker_end (event.AskerEnd asker) = true
+is_asker_end e = false
+
+abbrev pub is_drain : Event → Bool
+is_drain (event.Drain ids requests) = true
+is_drain e = false
 
 abbrev pub is_close : Event → Bool
 is_close event.Close = true
@@ -150,3 +180,35 @@ least_idle threads events =
 -- what a further helper is answered: none exactly where no thread is free
 abbrev pub helper_answer : ℕ → List Event → Option ℕ
 helper_answer threads events = if free_threads threads events == 0 then None else least_idle threads events
+
+-- the requests made, and those answered with their answers, each in order
+abbrev pub asked : List Event → List Asking
+asked events = filter_map asked_in events
+
+abbrev pub answers : List Event → List (ℕ × ℤ)
+answers events = filter_map answered_in events
+
+-- the requests not fetched, in order
+abbrev pub unfetched : List Event → List ℕ
+unfetched events = filter (λ q. not (is_among (flat_map fetched_in events) q)) (map (λ r. r.no) (asked events))
+
+abbrev pub is_fetched : List Event → ℕ → Bool
+is_fetched events q = is_among (flat_map fetched_in events) q
+
+abbrev pub is_answered : List Event → ℕ → Bool
+is_answered events q = list_any (λ x. x.0 == q) (answers events)
+
+abbrev pub has_left : List Event → ℕ → Bool
+has_left events asker = is_among (filter_map left_in events) asker
+
+-- a request of the asker
+abbrev pub is_of_asker : ℕ → Asking → Bool
+is_of_asker asker request = request.asker == asker
+
+-- whether every request of an asker is answered
+abbrev pub is_served : List Event → ℕ → Bool
+is_served events asker = list_all (λ r. is_answered events r.no) (filter (is_of_asker asker) (asked events))
+
+-- how many of so many askers have not ended; each of them ends at most once
+abbrev pub askers_left : ℕ → List Event → ℕ
+askers_left askers events = askers - length (filter_map left_in events)

@@ -2,9 +2,9 @@
 -- lines and words as in scripts, numbers with leading zeros, and runs of empty drains in more lines than one.
 use Rattle.std.specs.Prelude.{◌≡◌, ℕ, ◌+◌, ◌<◌, ◌≤◌, Option, Some, None, List, [], ◌∷◌, ◌++◌, map, filter, flat_map, length, replicate, codes}
 use Rattle.std.specs.List.{AllZip, AllByRecursion, zip}
-use Rattle.ak_text.specs.Lines.{TextLine, numbered, lines_of}
+use Rattle.ak_text.specs.Lines.{TextLine, numbered, lines_of, counts}
 use Rattle.ak_print.specs.Work.{kind_word}
-use Rattle.ak_row.specs.Places.{Place, Exactly, Thing, Signed, Counted, IsRow, counts, outcome_places}
+use Rattle.ak_row.specs.Places.{Place, Exactly, Thing, LongNumber, Signed, Counted, IsRow, outcome_places}
 use Rattle.ak_row.specs.Plain.{IsPlain}
 use Rattle.ak_history.specs.declared.event.Event.{Event}
 use Rattle.ak_history.specs.declared.event.Event.TheVariants as event
@@ -22,13 +22,21 @@ abbrev pub answer_places : Option ℕ → List Place
 answer_places None = Exactly (codes "refused") ∷ []
 answer_places (Some thread) = Exactly (codes "granted") ∷ Thing thread ∷ []
 
+-- the requests of a drain behind its works, if there are any
+abbrev pub request_places : List ℕ → List Place
+request_places [] = []
+request_places (q ∷ requests) = Exactly (codes "requests") ∷ map LongNumber (q ∷ requests)
+
 -- the words of an event's line
 abbrev pub event_row : Event → List Place
 event_row (event.Submit id work helper) =
     Exactly (codes "submit") ∷ Thing id ∷ submit_places helper (Exactly (kind_word work.kind) ∷ Signed work.num ∷ [])
 event_row (event.Start thread id) = Exactly (codes "start") ∷ Thing thread ∷ Thing id ∷ []
 event_row (event.Finish thread id outcome) = Exactly (codes "finish") ∷ Thing thread ∷ Thing id ∷ outcome_places outcome
-event_row (event.Drain ids) = Exactly (codes "drain") ∷ map Thing ids
+event_row (event.Request q asker n) = Exactly (codes "request") ∷ LongNumber q ∷ Thing asker ∷ Signed n ∷ []
+event_row (event.AskerEnd asker) = Exactly (codes "askerend") ∷ Thing asker ∷ []
+event_row (event.Drain ids requests) = Exactly (codes "drain") ∷ map Thing ids ++ request_places requests
+event_row (event.Answered q n) = Exactly (codes "answered") ∷ LongNumber q ∷ Signed n ∷ []
 event_row (event.HelperNew helper answer) = Exactly (codes "helper") ∷ Thing helper ∷ answer_places answer
 event_row (event.HelperEnd helper) = Exactly (codes "helperend") ∷ Thing helper ∷ []
 event_row event.Close = Exactly (codes "close") ∷ []
@@ -38,19 +46,19 @@ abbrev pub line_row : HistoryLine → List Place
 line_row (Idle n) = Exactly (codes "idle") ∷ Counted n ∷ []
 line_row (Of e) = event_row e
 
--- a drain with a line of its own names one work or more
-abbrev pub NamesWorks : HistoryLine → Type 0
-NamesWorks (Of (event.Drain ids)) = 1 ≤ length ids
-NamesWorks _ = Unit {0}
+-- a drain with a line of its own brings a work or a request
+abbrev pub BringsSome : HistoryLine → Type 0
+BringsSome (Of (event.Drain ids requests)) = 1 ≤ length ids + length requests
+BringsSome _ = Unit {0}
 
 -- the line of the text is that line of a history
 pub record IsHistoryLine (row : HistoryLine) (line : TextLine) : Type 0 where
   pub words : IsRow (line_row row) line
-  pub works : NamesWorks row
+  pub brings : BringsSome row
 
 -- the events of a line: so many drains that bring nothing, or one event
 abbrev pub line_events : HistoryLine → List Event
-line_events (Idle n) = replicate n (event.Drain [])
+line_events (Idle n) = replicate n (event.Drain [] [])
 line_events (Of e) = e ∷ []
 
 -- the events of lines, one behind the other
@@ -95,7 +103,7 @@ pub record IsFirstBad (bytes : List ℕ) (first : ℕ) (number : ℕ) : Type 0 w
   pub number_is : number ≡ line.number
 
 -- ---- what is read back
--- numbers of things are below 2 ^ 32, and other numbers are of 64 bits with a sign
+-- numbers of things are below 2 ^ 32, those of requests below 2 ^ 64, and other numbers are of 64 bits with a sign
 abbrev pub IsInRange : Event → Type 0
 IsInRange e = AllByRecursion IsPlain (event_row e)
 

@@ -3,10 +3,9 @@
 use Rattle.std.specs.Prelude.{◌≡◌, ℕ, ◌+◌, nat_le, if◌then◌else◌, Option, Some, None, Result, Ok, Err, List, [], ◌∷◌, ◌++◌, length, replicate, codes}
 use Rattle.std.specs.List.{find}
 use Rattle.std.specs.Str.{bytes_eq}
-use Rattle.ak_text.specs.Lines.{TextLine}
+use Rattle.ak_text.specs.Lines.{TextLine, counts}
 use Rattle.ak_labor.specs.declared.work.Work.{Work}
-use Rattle.ak_row.specs.Places.{counts}
-use Rattle.ak_row.specs.Parts.{◌>>=◌, Part, both, mapped, word_at, end_at, thing_of, thing_at, count_at, signed_at, kind_at, outcome_at, whole, row_words}
+use Rattle.ak_row.specs.Parts.{◌>>=◌, Part, both, mapped, word_at, end_at, thing_of, thing_at, long_of, long_at, count_at, signed_at, kind_at, outcome_at, whole, row_words}
 use Rattle.ak_history.specs.declared.event.Event.{Event}
 use Rattle.ak_history.specs.declared.event.Event.TheVariants as event
 use Rattle.ak_history.specs.declared.line.HistoryLine.{HistoryLine}
@@ -23,14 +22,18 @@ abbrev pub first_word : FirstWord → List ℕ
 first_word first.Submit = codes "submit"
 first_word first.Start = codes "start"
 first_word first.Finish = codes "finish"
+first_word first.Request = codes "request"
+first_word first.AskerEnd = codes "askerend"
 first_word first.Drain = codes "drain"
+first_word first.Answered = codes "answered"
 first_word first.Idle = codes "idle"
 first_word first.Helper = codes "helper"
 first_word first.HelperEnd = codes "helperend"
 first_word first.Close = codes "close"
 
 abbrev pub all_first_words : List FirstWord
-all_first_words = first.Submit ∷ first.Start ∷ first.Finish ∷ first.Drain ∷ first.Idle ∷ first.Helper ∷ first.HelperEnd ∷ first.Close ∷ []
+all_first_words =
+    first.Submit ∷ first.Start ∷ first.Finish ∷ first.Request ∷ first.AskerEnd ∷ first.Drain ∷ first.Answered ∷ first.Idle ∷ first.Helper ∷ first.HelperEnd ∷ first.Close ∷ []
 
 unfoldable pub first_named : List ℕ → Option FirstWord
 first_named word = find (λ one. bytes_eq (first_word one) word) all_first_words
@@ -52,10 +55,31 @@ answer_at words = word_at words >>= λ w. answer_from w.0 w.1
 unfoldable pub work_at : Part Work
 work_at = mapped (λ t. record { kind = t.0; num = t.1 }) (both kind_at signed_at)
 
--- the numbers of all words
-unfoldable pub things_of : List (List ℕ) → Option (List ℕ)
-things_of [] = Some []
-things_of (word ∷ words) = thing_of word >>= λ id. things_of words >>= λ ids. Some (id ∷ ids)
+-- the numbers of requests that all words are
+unfoldable pub longs_of : List (List ℕ) → Option (List ℕ)
+longs_of [] = Some []
+longs_of (word ∷ words) = long_of word >>= λ q. longs_of words >>= λ requests. Some (q ∷ requests)
+
+-- one request at least
+abbrev pub some_requests : List ℕ → Option (List ℕ)
+some_requests [] = None
+some_requests (q ∷ requests) = Some (q ∷ requests)
+
+unfoldable pub requests_of : List (List ℕ) → Option (List ℕ)
+requests_of words = longs_of words >>= some_requests
+
+-- what stands behind the word `requests`
+abbrev pub requests_alone : List (List ℕ) → Option (List ℕ × List ℕ)
+requests_alone words = requests_of words >>= λ requests. Some ([], requests)
+
+abbrev pub with_work : ℕ → Option (List ℕ × List ℕ) → Option (List ℕ × List ℕ)
+with_work id brought = brought >>= λ b. Some (id ∷ b.0, b.1)
+
+-- the works and the requests of a drain
+unfoldable pub brought_of : List (List ℕ) → Option (List ℕ × List ℕ)
+brought_of [] = Some ([], [])
+brought_of (word ∷ words) =
+    if bytes_eq word (codes "requests") then requests_alone words else (thing_of word >>= λ id. with_work id (brought_of words))
 
 -- the event or the run of drains of each first word, by the words behind it
 unfoldable pub submit_of : List (List ℕ) → Option Event
@@ -67,12 +91,23 @@ start_of words = whole (both thing_at thing_at) words >>= λ t. Some (event.Star
 unfoldable pub finish_of : List (List ℕ) → Option Event
 finish_of words = whole (both thing_at (both thing_at outcome_at)) words >>= λ t. Some (event.Finish t.0 t.1.0 t.1.1)
 
-abbrev pub some_ids : List ℕ → Option Event
-some_ids [] = None
-some_ids (id ∷ ids) = Some (event.Drain (id ∷ ids))
+unfoldable pub request_of : List (List ℕ) → Option Event
+request_of words = whole (both long_at (both thing_at signed_at)) words >>= λ t. Some (event.Request t.0 t.1.0 t.1.1)
+
+unfoldable pub asker_end_of : List (List ℕ) → Option Event
+asker_end_of words = whole thing_at words >>= λ asker. Some (event.AskerEnd asker)
+
+-- a drain that brings something
+abbrev pub some_drain : List ℕ × List ℕ → Option Event
+some_drain ([], []) = None
+some_drain ([], q ∷ requests) = Some (event.Drain [] (q ∷ requests))
+some_drain (id ∷ ids, requests) = Some (event.Drain (id ∷ ids) requests)
 
 unfoldable pub drain_of : List (List ℕ) → Option Event
-drain_of words = things_of words >>= some_ids
+drain_of words = brought_of words >>= some_drain
+
+unfoldable pub answered_of : List (List ℕ) → Option Event
+answered_of words = whole (both long_at signed_at) words >>= λ t. Some (event.Answered t.0 t.1)
 
 unfoldable pub helper_of : List (List ℕ) → Option Event
 helper_of words = whole (both thing_at answer_at) words >>= λ t. Some (event.HelperNew t.0 t.1)
@@ -93,7 +128,10 @@ abbrev pub line_by : FirstWord → List (List ℕ) → Option HistoryLine
 line_by first.Submit words = of_event (submit_of words)
 line_by first.Start words = of_event (start_of words)
 line_by first.Finish words = of_event (finish_of words)
+line_by first.Request words = of_event (request_of words)
+line_by first.AskerEnd words = of_event (asker_end_of words)
 line_by first.Drain words = of_event (drain_of words)
+line_by first.Answered words = of_event (answered_of words)
 line_by first.Idle words = idle_of words
 line_by first.Helper words = of_event (helper_of words)
 line_by first.HelperEnd words = of_event (helper_end_of words)

@@ -2,15 +2,15 @@
 
 ghost use Rattle.std.specs.Prelude.{◌≡◌, IfOk};
 ghost use Rattle.ak_row.specs.Parts.{Leaves};
-ghost use Rattle.ak_history.specs.Taking.{line_of, submit_of, start_of, finish_of, drain_of, helper_of, helper_end_of, close_of, idle_of, for_whom_at, answer_at, work_at};
+ghost use Rattle.ak_history.specs.Taking.{line_of, submit_of, start_of, finish_of, request_of, asker_end_of, requests_of, drain_of, answered_of, helper_of, helper_end_of, close_of, idle_of, for_whom_at, answer_at, work_at};
 
-use crate::event::Event;
+use crate::event::{Event, RequestIds};
 use crate::line::{FirstWord, HistoryLine};
 use ak_base::list::{Items, NoMemory};
-use ak_base::number::{HelperNo, ThreadNo, WorkNo};
+use ak_base::number::{HelperNo, RequestNo, ThreadNo, WorkNo};
 use ak_labor::work::Work;
 use ak_row::row::Row;
-use ak_row::word::thing;
+use ak_row::word::{long, thing};
 use std::alloc::Global;
 
 /// The line of a history that has these words: `None` exactly where there is none.
@@ -28,7 +28,10 @@ pub fn line(alloc: Global, row: &mut Row) -> Result<Option<HistoryLine>, NoMemor
         FirstWord::Submit => Ok(submit(row).map(HistoryLine::Of)),
         FirstWord::Start => Ok(start(row).map(HistoryLine::Of)),
         FirstWord::Finish => Ok(finish(row).map(HistoryLine::Of)),
+        FirstWord::Request => Ok(request(row).map(HistoryLine::Of)),
+        FirstWord::AskerEnd => Ok(asker_end(row).map(HistoryLine::Of)),
         FirstWord::Drain => Ok(drain(alloc, row)?.map(HistoryLine::Of)),
+        FirstWord::Answered => Ok(answered(row).map(HistoryLine::Of)),
         FirstWord::Idle => Ok(idle(row)),
         FirstWord::Helper => Ok(helper(row).map(HistoryLine::Of)),
         FirstWord::HelperEnd => Ok(helper_end(row).map(HistoryLine::Of)),
@@ -96,12 +99,38 @@ fn finish(row: &mut Row) -> Option<Event>
     })
 }
 
-/// A drain that brings works.
+#[tactic(auto, unfolding(crate::specs::Taking::request_of))]
+fn request(row: &mut Row) -> Option<Event>
+    ensures { result ≡ request_of row.old }
+{
+    let no = row.request()?;
+    let asker = row.number()?;
+    let num = row.signed()?;
+    row.end()?;
+    Some(Event::Request { no, asker, num })
+}
+
+#[tactic(auto, unfolding(crate::specs::Taking::asker_end_of))]
+fn asker_end(row: &mut Row) -> Option<Event>
+    ensures { result ≡ asker_end_of row.old }
+{
+    let asker = row.number()?;
+    row.end()?;
+    Some(Event::AskerEnd { asker })
+}
+
+/// A drain that brings something: works, and behind the word `requests` requests.
 fn drain(alloc: Global, row: &mut Row) -> Result<Option<Event>, NoMemory>
     ensures { IfOk result (λ found. found ≡ drain_of row.old) }
 {
     let mut ids = Items::make(alloc);
     while let Some(word) = row.word() {
+        if word == b"requests".as_slice() {
+            let Some(requests) = requests(alloc, row)? else {
+                return Ok(None);
+            };
+            return Ok(Some(Event::Drain { ids, requests }));
+        }
         let Some(id) = thing(word) else {
             return Ok(None);
         };
@@ -110,7 +139,35 @@ fn drain(alloc: Global, row: &mut Row) -> Result<Option<Event>, NoMemory>
     if ids.len() == 0 {
         return Ok(None);
     }
-    Ok(Some(Event::Drain { ids }))
+    let requests = Items::make(alloc);
+    Ok(Some(Event::Drain { ids, requests }))
+}
+
+/// The requests of a drain, one at least.
+fn requests(alloc: Global, row: &mut Row) -> Result<Option<RequestIds>, NoMemory>
+    ensures { IfOk result (λ found. found ≡ requests_of row.old) }
+{
+    let mut requests = Items::make(alloc);
+    while let Some(word) = row.word() {
+        let Some(no) = long(word) else {
+            return Ok(None);
+        };
+        requests.push(RequestNo::new(no))?;
+    }
+    if requests.len() == 0 {
+        return Ok(None);
+    }
+    Ok(Some(requests))
+}
+
+#[tactic(auto, unfolding(crate::specs::Taking::answered_of))]
+fn answered(row: &mut Row) -> Option<Event>
+    ensures { result ≡ answered_of row.old }
+{
+    let no = row.request()?;
+    let num = row.signed()?;
+    row.end()?;
+    Some(Event::Answered { no, num })
 }
 
 /// A run of drains that bring nothing.

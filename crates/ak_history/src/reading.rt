@@ -108,8 +108,11 @@ impl Recorded {
         ensures { OnOk result (self.new ≡ with_line self.old number (HistoryLine.Idle n)) }
     {
         for _ in 0..n {
-            let ids = Items::make(alloc);
-            self.push(number, Event::Drain { ids })?;
+            let drain = Event::Drain {
+                ids: Items::make(alloc),
+                requests: Items::make(alloc),
+            };
+            self.push(number, drain)?;
         }
         Ok(())
     }

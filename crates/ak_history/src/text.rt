@@ -1,12 +1,12 @@
 //! The text of a history.
 
-ghost use Rattle.std.specs.Prelude.{◌≡◌, ◌≤◌, ◌++◌, ◌↔◌, [], ◌∷◌, OnOk, OnErr, IsTrue, flat_map};
-ghost use Rattle.ak_base.specs.Streams.{Rose, grown, TookBeginning, Passes};
-ghost use Rattle.ak_history.specs.Text.{history_text, event_text, idle_text, id_text};
+ghost use Rattle.std.specs.Prelude.{◌≡◌, ◌++◌, ◌↔◌, [], ◌∷◌, IsTrue, flat_map};
+ghost use Rattle.ak_base.specs.Streams.{HasWritten, HasPut};
+ghost use Rattle.ak_history.specs.Text.{history_text, event_text, idle_text, id_text, requests_text};
 
 use crate::event::{Event, History};
 use ak_base::buffer::Buffer;
-use ak_base::number::{HelperNo, ThreadNo, WorkNo};
+use ak_base::number::{AskerNo, HelperNo, RequestNo, ThreadNo, WorkNo};
 use ak_base::sink::{Sink, WriteFailed};
 use ak_labor::work::{Outcome, Work};
 use ak_print::piece::Piece::{Count, Num, Text};
@@ -18,10 +18,8 @@ use ak_print::piece::{Piece, put_pieces};
 ///
 /// `WriteFailed`, only where the sink's count of faults rose. A beginning of the text was then taken.
 pub fn write_history<K: Sink>(h: &History, sink: &mut K) -> Result<(), WriteFailed>
-    ensures takes { OnOk result (K.taken sink.new ≡ grown (K.taken sink.old) (history_text h.now)) }
-    ensures begins { OnErr result (TookBeginning (K.taken sink.old) (K.taken sink.new) (history_text h.now)) }
-    ensures never_falls { K.faults sink.old ≤ K.faults sink.new }
-    ensures cause { OnErr result (Rose (K.faults sink.old) (K.faults sink.new)) }
+    ensures { HasWritten result
+        (K.taken sink.old) (K.taken sink.new) (K.faults sink.old) (K.faults sink.new) (history_text h.now) }
 {
     let mut buffer = Buffer::new();
     put_history(h, &mut buffer, sink)?;
@@ -40,13 +38,9 @@ pub fn put_history<K: Sink>(
     buffer: &mut Buffer,
     sink: &mut K,
 ) -> Result<(), WriteFailed>
-    ensures passes { OnOk result
-        (Passes (K.taken sink.old) (K.taken sink.new) buffer.old buffer.new (history_text h.now)) }
-    ensures begins { OnErr result
-        (TookBeginning (K.taken sink.old) (K.taken sink.new) (buffer.old ++ history_text h.now)) }
-    ensures lost { OnErr result (buffer.new ≡ []) }
-    ensures never_falls { K.faults sink.old ≤ K.faults sink.new }
-    ensures cause { OnErr result (Rose (K.faults sink.old) (K.faults sink.new)) }
+    ensures { HasPut result
+        (K.taken sink.old) (K.taken sink.new) (K.faults sink.old) (K.faults sink.new)
+        buffer.old buffer.new (history_text h.now) }
 {
     put_events(h.as_slice(), buffer, sink)
 }
@@ -57,13 +51,9 @@ fn put_events<K: Sink>(
     buffer: &mut Buffer,
     sink: &mut K,
 ) -> Result<(), WriteFailed>
-    ensures passes { OnOk result
-        (Passes (K.taken sink.old) (K.taken sink.new) buffer.old buffer.new (history_text events.now)) }
-    ensures begins { OnErr result
-        (TookBeginning (K.taken sink.old) (K.taken sink.new) (buffer.old ++ history_text events.now)) }
-    ensures lost { OnErr result (buffer.new ≡ []) }
-    ensures never_falls { K.faults sink.old ≤ K.faults sink.new }
-    ensures cause { OnErr result (Rose (K.faults sink.old) (K.faults sink.new)) }
+    ensures { HasPut result
+        (K.taken sink.old) (K.taken sink.new) (K.faults sink.old) (K.faults sink.new)
+        buffer.old buffer.new (history_text events.now) }
 {
     let mut idle = 0;
     for event in events {
@@ -80,10 +70,10 @@ fn put_events<K: Sink>(
 
 // Whether an event is a drain that brings nothing.
 fn is_idle(event: &Event) -> bool
-    ensures { IsTrue result ↔ (event.now ≡ Event.Drain []) }
+    ensures { IsTrue result ↔ (event.now ≡ Event.Drain [] []) }
 {
     match event {
-        Event::Drain { ids } => ids.len() == 0,
+        Event::Drain { ids, requests } => ids.len() == 0 && requests.len() == 0,
         _ => false,
     }
 }
@@ -95,13 +85,9 @@ fn put_after_idle<K: Sink>(
     buffer: &mut Buffer,
     sink: &mut K,
 ) -> Result<(), WriteFailed>
-    ensures passes { OnOk result
-        (Passes (K.taken sink.old) (K.taken sink.new) buffer.old buffer.new (idle_text idle ++ event_text event.now)) }
-    ensures begins { OnErr result
-        (TookBeginning (K.taken sink.old) (K.taken sink.new) (buffer.old ++ (idle_text idle ++ event_text event.now))) }
-    ensures lost { OnErr result (buffer.new ≡ []) }
-    ensures never_falls { K.faults sink.old ≤ K.faults sink.new }
-    ensures cause { OnErr result (Rose (K.faults sink.old) (K.faults sink.new)) }
+    ensures { HasPut result
+        (K.taken sink.old) (K.taken sink.new) (K.faults sink.old) (K.faults sink.new)
+        buffer.old buffer.new (idle_text idle ++ event_text event.now) }
 {
     put_idle(idle, buffer, sink)?;
     put_event(event, buffer, sink)?;
@@ -110,13 +96,9 @@ fn put_after_idle<K: Sink>(
 
 // Puts the line of a run of empty drains, if there are any, behind what waits.
 fn put_idle<K: Sink>(idle: u64, buffer: &mut Buffer, sink: &mut K) -> Result<(), WriteFailed>
-    ensures passes { OnOk result
-        (Passes (K.taken sink.old) (K.taken sink.new) buffer.old buffer.new (idle_text idle)) }
-    ensures begins { OnErr result
-        (TookBeginning (K.taken sink.old) (K.taken sink.new) (buffer.old ++ idle_text idle)) }
-    ensures lost { OnErr result (buffer.new ≡ []) }
-    ensures never_falls { K.faults sink.old ≤ K.faults sink.new }
-    ensures cause { OnErr result (Rose (K.faults sink.old) (K.faults sink.new)) }
+    ensures { HasPut result
+        (K.taken sink.old) (K.taken sink.new) (K.faults sink.old) (K.faults sink.new)
+        buffer.old buffer.new (idle_text idle) }
 {
     match idle {
         0 => put_pieces(&[], buffer, sink),
@@ -126,13 +108,9 @@ fn put_idle<K: Sink>(idle: u64, buffer: &mut Buffer, sink: &mut K) -> Result<(),
 
 // Puts an event's line behind what waits.
 fn put_event<K: Sink>(event: &Event, buffer: &mut Buffer, sink: &mut K) -> Result<(), WriteFailed>
-    ensures passes { OnOk result
-        (Passes (K.taken sink.old) (K.taken sink.new) buffer.old buffer.new (event_text event.now)) }
-    ensures begins { OnErr result
-        (TookBeginning (K.taken sink.old) (K.taken sink.new) (buffer.old ++ event_text event.now)) }
-    ensures lost { OnErr result (buffer.new ≡ []) }
-    ensures never_falls { K.faults sink.old ≤ K.faults sink.new }
-    ensures cause { OnErr result (Rose (K.faults sink.old) (K.faults sink.new)) }
+    ensures { HasPut result
+        (K.taken sink.old) (K.taken sink.new) (K.faults sink.old) (K.faults sink.new)
+        buffer.old buffer.new (event_text event.now) }
 {
     match event {
         Event::Submit { id, work, helper } => put_submit(*id, *work, *helper, buffer, sink),
@@ -152,7 +130,26 @@ fn put_event<K: Sink>(event: &Event, buffer: &mut Buffer, sink: &mut K) -> Resul
             id,
             outcome,
         } => put_finish(*thread, *id, *outcome, buffer, sink),
-        Event::Drain { ids } => put_drain(ids.as_slice(), buffer, sink),
+        Event::Request { no, asker, num } => put_request(*no, *asker, *num, buffer, sink),
+        Event::AskerEnd { asker } => put_pieces(
+            &[Text("askerend "), Piece::number(*asker), Text("\n")],
+            buffer,
+            sink,
+        ),
+        Event::Drain { ids, requests } => {
+            put_drain(ids.as_slice(), requests.as_slice(), buffer, sink)
+        }
+        Event::Answered { no, num } => put_pieces(
+            &[
+                Text("answered "),
+                Piece::request(*no),
+                Text(" "),
+                Num(*num),
+                Text("\n"),
+            ],
+            buffer,
+            sink,
+        ),
         Event::HelperNew { no, answer } => put_answer(*no, *answer, buffer, sink),
         Event::HelperEnd { no } => put_pieces(
             &[Text("helperend "), Piece::number(*no), Text("\n")],
@@ -171,13 +168,9 @@ fn put_submit<K: Sink>(
     buffer: &mut Buffer,
     sink: &mut K,
 ) -> Result<(), WriteFailed>
-    ensures passes { OnOk result (Passes (K.taken sink.old) (K.taken sink.new) buffer.old buffer.new
-        (event_text (Event.Submit id work helper))) }
-    ensures begins { OnErr result (TookBeginning (K.taken sink.old) (K.taken sink.new)
-        (buffer.old ++ event_text (Event.Submit id work helper))) }
-    ensures lost { OnErr result (buffer.new ≡ []) }
-    ensures never_falls { K.faults sink.old ≤ K.faults sink.new }
-    ensures cause { OnErr result (Rose (K.faults sink.old) (K.faults sink.new)) }
+    ensures { HasPut result
+        (K.taken sink.old) (K.taken sink.new) (K.faults sink.old) (K.faults sink.new)
+        buffer.old buffer.new (event_text (Event.Submit id work helper)) }
 {
     match helper {
         None => put_pieces(
@@ -219,13 +212,9 @@ fn put_finish<K: Sink>(
     buffer: &mut Buffer,
     sink: &mut K,
 ) -> Result<(), WriteFailed>
-    ensures passes { OnOk result (Passes (K.taken sink.old) (K.taken sink.new) buffer.old buffer.new
-        (event_text (Event.Finish thread id outcome))) }
-    ensures begins { OnErr result (TookBeginning (K.taken sink.old) (K.taken sink.new)
-        (buffer.old ++ event_text (Event.Finish thread id outcome))) }
-    ensures lost { OnErr result (buffer.new ≡ []) }
-    ensures never_falls { K.faults sink.old ≤ K.faults sink.new }
-    ensures cause { OnErr result (Rose (K.faults sink.old) (K.faults sink.new)) }
+    ensures { HasPut result
+        (K.taken sink.old) (K.taken sink.new) (K.faults sink.old) (K.faults sink.new)
+        buffer.old buffer.new (event_text (Event.Finish thread id outcome)) }
 {
     match outcome {
         Outcome::Good(num) => put_pieces(
@@ -257,6 +246,33 @@ fn put_finish<K: Sink>(
     }
 }
 
+// Puts the line of a request behind what waits.
+fn put_request<K: Sink>(
+    no: RequestNo,
+    asker: AskerNo,
+    num: i64,
+    buffer: &mut Buffer,
+    sink: &mut K,
+) -> Result<(), WriteFailed>
+    ensures { HasPut result
+        (K.taken sink.old) (K.taken sink.new) (K.faults sink.old) (K.faults sink.new)
+        buffer.old buffer.new (event_text (Event.Request no asker num)) }
+{
+    put_pieces(
+        &[
+            Text("request "),
+            Piece::request(no),
+            Text(" "),
+            Piece::number(asker),
+            Text(" "),
+            Num(num),
+            Text("\n"),
+        ],
+        buffer,
+        sink,
+    )
+}
+
 // Puts the line of a helper's answer behind what waits.
 fn put_answer<K: Sink>(
     helper: HelperNo,
@@ -264,13 +280,9 @@ fn put_answer<K: Sink>(
     buffer: &mut Buffer,
     sink: &mut K,
 ) -> Result<(), WriteFailed>
-    ensures passes { OnOk result (Passes (K.taken sink.old) (K.taken sink.new) buffer.old buffer.new
-        (event_text (Event.HelperNew helper answer))) }
-    ensures begins { OnErr result (TookBeginning (K.taken sink.old) (K.taken sink.new)
-        (buffer.old ++ event_text (Event.HelperNew helper answer))) }
-    ensures lost { OnErr result (buffer.new ≡ []) }
-    ensures never_falls { K.faults sink.old ≤ K.faults sink.new }
-    ensures cause { OnErr result (Rose (K.faults sink.old) (K.faults sink.new)) }
+    ensures { HasPut result
+        (K.taken sink.old) (K.taken sink.new) (K.faults sink.old) (K.faults sink.new)
+        buffer.old buffer.new (event_text (Event.HelperNew helper answer)) }
 {
     match answer {
         None => put_pieces(
@@ -293,46 +305,74 @@ fn put_answer<K: Sink>(
 }
 
 // Puts the line of a drain behind what waits.
-fn put_drain<K: Sink>(ids: &[WorkNo], buffer: &mut Buffer, sink: &mut K) -> Result<(), WriteFailed>
-    ensures passes { OnOk result (Passes (K.taken sink.old) (K.taken sink.new) buffer.old buffer.new
-        (event_text (Event.Drain ids.now))) }
-    ensures begins { OnErr result (TookBeginning (K.taken sink.old) (K.taken sink.new)
-        (buffer.old ++ event_text (Event.Drain ids.now))) }
-    ensures lost { OnErr result (buffer.new ≡ []) }
-    ensures never_falls { K.faults sink.old ≤ K.faults sink.new }
-    ensures cause { OnErr result (Rose (K.faults sink.old) (K.faults sink.new)) }
+fn put_drain<K: Sink>(
+    ids: &[WorkNo],
+    requests: &[RequestNo],
+    buffer: &mut Buffer,
+    sink: &mut K,
+) -> Result<(), WriteFailed>
+    ensures { HasPut result
+        (K.taken sink.old) (K.taken sink.new) (K.faults sink.old) (K.faults sink.new)
+        buffer.old buffer.new (event_text (Event.Drain ids.now requests.now)) }
 {
     buffer.put(sink, b"drain")?;
     put_ids(ids, buffer, sink)?;
+    put_requests(requests, buffer, sink)?;
     buffer.put(sink, b"\n")?;
     Ok(())
 }
 
-// Puts the numbers, each after a space, behind what waits.
+// Puts the numbers of works, each after a space, behind what waits.
 fn put_ids<K: Sink>(ids: &[WorkNo], buffer: &mut Buffer, sink: &mut K) -> Result<(), WriteFailed>
-    ensures passes { OnOk result (Passes (K.taken sink.old) (K.taken sink.new) buffer.old buffer.new
-        (flat_map id_text ids.now)) }
-    ensures begins { OnErr result (TookBeginning (K.taken sink.old) (K.taken sink.new)
-        (buffer.old ++ flat_map id_text ids.now)) }
-    ensures lost { OnErr result (buffer.new ≡ []) }
-    ensures never_falls { K.faults sink.old ≤ K.faults sink.new }
-    ensures cause { OnErr result (Rose (K.faults sink.old) (K.faults sink.new)) }
+    ensures { HasPut result
+        (K.taken sink.old) (K.taken sink.new) (K.faults sink.old) (K.faults sink.new)
+        buffer.old buffer.new (flat_map id_text ids.now) }
 {
     for id in ids {
-        put_id(*id, buffer, sink)?;
+        put_id(u64::from(id.number()), buffer, sink)?;
+    }
+    Ok(())
+}
+
+// Puts the requests of a drain, if there are any, behind what waits.
+fn put_requests<K: Sink>(
+    requests: &[RequestNo],
+    buffer: &mut Buffer,
+    sink: &mut K,
+) -> Result<(), WriteFailed>
+    ensures { HasPut result
+        (K.taken sink.old) (K.taken sink.new) (K.faults sink.old) (K.faults sink.new)
+        buffer.old buffer.new (requests_text requests.now) }
+{
+    if requests.is_empty() {
+        return Ok(());
+    }
+    buffer.put(sink, b" requests")?;
+    put_request_ids(requests, buffer, sink)?;
+    Ok(())
+}
+
+// Puts the numbers of requests, each after a space, behind what waits.
+fn put_request_ids<K: Sink>(
+    requests: &[RequestNo],
+    buffer: &mut Buffer,
+    sink: &mut K,
+) -> Result<(), WriteFailed>
+    ensures { HasPut result
+        (K.taken sink.old) (K.taken sink.new) (K.faults sink.old) (K.faults sink.new)
+        buffer.old buffer.new (flat_map id_text requests.now) }
+{
+    for no in requests {
+        put_id(no.number(), buffer, sink)?;
     }
     Ok(())
 }
 
 // Puts a number behind a space behind what waits.
-fn put_id<K: Sink>(id: WorkNo, buffer: &mut Buffer, sink: &mut K) -> Result<(), WriteFailed>
-    ensures passes { OnOk result (Passes (K.taken sink.old) (K.taken sink.new) buffer.old buffer.new
-        (id_text id)) }
-    ensures begins { OnErr result (TookBeginning (K.taken sink.old) (K.taken sink.new)
-        (buffer.old ++ id_text id)) }
-    ensures lost { OnErr result (buffer.new ≡ []) }
-    ensures never_falls { K.faults sink.old ≤ K.faults sink.new }
-    ensures cause { OnErr result (Rose (K.faults sink.old) (K.faults sink.new)) }
+fn put_id<K: Sink>(number: u64, buffer: &mut Buffer, sink: &mut K) -> Result<(), WriteFailed>
+    ensures { HasPut result
+        (K.taken sink.old) (K.taken sink.new) (K.faults sink.old) (K.faults sink.new)
+        buffer.old buffer.new (id_text number) }
 {
-    put_pieces(&[Text(" "), Piece::number(id)], buffer, sink)
+    put_pieces(&[Text(" "), Count(number)], buffer, sink)
 }

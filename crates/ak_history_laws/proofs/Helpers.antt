@@ -15,7 +15,7 @@ use Rattle.ak_history.specs.declared.event.Event.{Event}
 use Rattle.ak_history.specs.declared.event.Event.TheVariants as event
 use Rattle.ak_history.specs.Events.{Reserved, reserved_in, ended_in, is_active, is_among, is_submit, is_helper_new}
 use Rattle.ak_history.specs.Legal.{Legal, IsLegalAfter, IsServed}
-use Rattle.ak_history.specs.Scheduler.{ask_of, asks, reply_in, replies}
+use Rattle.ak_history.specs.Scheduler.{ask_of, asks, replies_after, replies}
 use Rattle.ak_pool.proofs.Noting.{legal_next}
 use Rattle.ak_pool.proofs.Items.{each_map, none_any}
 use Rattle.ak_history_laws.proofs.Legals.{legal_keeps, left_by}
@@ -24,8 +24,8 @@ use Rattle.ak_history_laws.proofs.Arrivals.{handed_alike}
 use Rattle.ak_history_laws.proofs.Parts.{and_no, count_cons}
 
 -- how many works were handed in
-pub submits_alike : (threads : ℕ) (xs : List Event) → Legal threads xs → count_by is_submit xs ≡ length (filter_map handed_by (asks xs))
-submits_alike threads xs h = (left_by threads xs h).stands.handed_all ∙ ap length (sym (handed_alike xs))
+pub submits_alike : (threads askers : ℕ) (xs : List Event) → Legal threads askers xs → count_by is_submit xs ≡ length (filter_map handed_by (asks xs))
+submits_alike threads askers xs h = (left_by threads askers xs h).stands.handed_all ∙ ap length (sym (handed_alike xs))
 
 zip_last : {A B : Type 0} (xs : List A) (ys : List B) (x : A) (y : B) → length xs ≡ length ys → zip (xs ++ x ∷ []) (ys ++ y ∷ []) ≡ zip xs ys ++ (x, y) ∷ []
 zip_last [] [] x y e = refl
@@ -83,80 +83,84 @@ active_same xs e h g k =
     active_parts xs e h
     ∙ (λ i. list_any (names h) ((ap (λ l. filter_map reserved_in xs ++ l) g ∙ append-nil (filter_map reserved_in xs)) i) && not (is_among ((ap (λ l. filter_map ended_in xs ++ l) k ∙ append-nil (filter_map ended_in xs)) i) h))
 
-pub record Alike (threads : ℕ) (xs : List Event) : Type 0 where
-  pub legal : Legal threads xs
-  pub same : length (asks xs) ≡ length (replies xs)
-  pub active : (h : ℕ) → list_any (is_number h) (active_helpers (asks xs) (replies xs)) ≡ is_active xs h
+pub record Alike (threads askers : ℕ) (xs : List Event) : Type 0 where
+  pub legal : Legal threads askers xs
+  pub same : length (asks xs) ≡ length (replies askers xs)
+  pub active : (h : ℕ) → list_any (is_number h) (active_helpers (asks xs) (replies askers xs)) ≡ is_active xs h
 
 -- a new helper was not ended before
-not_ended : (threads : ℕ) (xs : List Event) (n : ℕ) → Legal threads xs → n ≡ count_by is_helper_new xs → is_among (filter_map ended_in xs) n ≡ false
-not_ended threads xs n h is =
+not_ended : (threads askers : ℕ) (xs : List Event) (n : ℕ) → Legal threads askers xs → n ≡ count_by is_helper_new xs → is_among (filter_map ended_in xs) n ≡ false
+not_ended threads askers xs n h is =
     none_any (λ k. k == n) (filter_map ended_in xs)
-    (each_map (λ k. k < count_by is_helper_new xs) (λ k. (k == n) ≡ false) (λ k less. ne_eqb k n (λ e. absurd (omega (arith, e, less, is)))) (filter_map ended_in xs) (left_by threads xs h).stands.ended_known)
+    (each_map (λ k. k < count_by is_helper_new xs) (λ k. (k == n) ≡ false) (λ k less. ne_eqb k n (λ e. absurd (omega (arith, e, less, is)))) (filter_map ended_in xs) (left_by threads askers xs h).stands.ended_known)
 
 -- a call and its reply
-called : (threads : ℕ) (xs : List Event) (e : Event) (a : Ask) (r : Reply) → Alike threads xs → IsLegalAfter threads xs e → asks (e ∷ []) ≡ a ∷ [] → filter_map (reply_in (xs ++ e ∷ [])) (e ∷ []) ≡ r ∷ [] → ((h : ℕ) → list_any (is_number h) (helped_by (active_helpers (asks xs) (replies xs)) a r) ≡ is_active (xs ++ e ∷ []) h) → Alike threads (xs ++ e ∷ [])
-called threads xs e a r k is ask reply goes =
+called : (threads askers : ℕ) (xs : List Event) (e : Event) (a : Ask) (r : Reply) → Alike threads askers xs → IsLegalAfter threads askers xs e → asks (e ∷ []) ≡ a ∷ [] → replies_after askers xs (e ∷ []) ≡ r ∷ [] → ((h : ℕ) → list_any (is_number h) (helped_by (active_helpers (asks xs) (replies askers xs)) a r) ≡ is_active (xs ++ e ∷ []) h) → Alike threads askers (xs ++ e ∷ [])
+called threads askers xs e a r k is ask reply goes =
     let asked : asks (xs ++ e ∷ []) ≡ asks xs ++ a ∷ [] = filter_map-append ask_of xs (e ∷ []) ∙ ap (λ l. asks xs ++ l) ask in
-    let replied : replies (xs ++ e ∷ []) ≡ replies xs ++ r ∷ [] = replies_more threads xs (e ∷ []) k.legal ∙ ap (λ l. replies xs ++ l) reply in
+    let replied : replies askers (xs ++ e ∷ []) ≡ replies askers xs ++ r ∷ [] = replies_more askers xs (e ∷ []) ∙ ap (λ l. replies askers xs ++ l) reply in
     record {
-      legal = legal_next threads xs e k.legal is;
-      same = omega (arith, ap length asked, ap length replied, length-append (asks xs) (a ∷ []), length-append (replies xs) (r ∷ []), k.same);
-      active = λ h. (λ i. list_any (is_number h) (active_helpers (asked i) (replied i))) ∙ (ap (list_any (is_number h)) (active_next (asks xs) (replies xs) a r k.same) ∙ goes h);
+      legal = legal_next threads askers xs e k.legal is;
+      same = omega (arith, ap length asked, ap length replied, length-append (asks xs) (a ∷ []), length-append (replies askers xs) (r ∷ []), k.same);
+      active = λ h. (λ i. list_any (is_number h) (active_helpers (asked i) (replied i))) ∙ (ap (list_any (is_number h)) (active_next (asks xs) (replies askers xs) a r k.same) ∙ goes h);
     }
 
--- an event of a worker
-uncalled : (threads : ℕ) (xs : List Event) (e : Event) → Alike threads xs → IsLegalAfter threads xs e → asks (e ∷ []) ≡ [] → filter_map (reply_in (xs ++ e ∷ [])) (e ∷ []) ≡ [] → filter_map reserved_in (e ∷ []) ≡ [] → filter_map ended_in (e ∷ []) ≡ [] → Alike threads (xs ++ e ∷ [])
-uncalled threads xs e k is ask reply g d =
+-- an event of a thread or an asker
+uncalled : (threads askers : ℕ) (xs : List Event) (e : Event) → Alike threads askers xs → IsLegalAfter threads askers xs e → asks (e ∷ []) ≡ [] → replies_after askers xs (e ∷ []) ≡ [] → filter_map reserved_in (e ∷ []) ≡ [] → filter_map ended_in (e ∷ []) ≡ [] → Alike threads askers (xs ++ e ∷ [])
+uncalled threads askers xs e k is ask reply g d =
     let asked : asks (xs ++ e ∷ []) ≡ asks xs = filter_map-append ask_of xs (e ∷ []) ∙ (ap (λ l. asks xs ++ l) ask ∙ append-nil (asks xs)) in
-    let replied : replies (xs ++ e ∷ []) ≡ replies xs = replies_more threads xs (e ∷ []) k.legal ∙ (ap (λ l. replies xs ++ l) reply ∙ append-nil (replies xs)) in
+    let replied : replies askers (xs ++ e ∷ []) ≡ replies askers xs = replies_more askers xs (e ∷ []) ∙ (ap (λ l. replies askers xs ++ l) reply ∙ append-nil (replies askers xs)) in
     record {
-      legal = legal_next threads xs e k.legal is;
+      legal = legal_next threads askers xs e k.legal is;
       same = omega (arith, ap length asked, ap length replied, k.same);
       active = λ h. (λ i. list_any (is_number h) (active_helpers (asked i) (replied i))) ∙ (k.active h ∙ sym (active_same xs e h g d));
     }
 
-one_more : (threads : ℕ) (xs : List Event) (e : Event) → Alike threads xs → IsLegalAfter threads xs e → Alike threads (xs ++ e ∷ [])
-one_more threads xs (event.Submit id work helper) k is =
-    called threads xs (event.Submit id work helper) (ask.Submit id work helper) Done k is refl refl (λ h. k.active h ∙ sym (active_same xs (event.Submit id work helper) h refl refl))
-one_more threads xs (event.Start thread id) k is = uncalled threads xs (event.Start thread id) k is refl refl refl refl
-one_more threads xs (event.Finish thread id outcome) k is = uncalled threads xs (event.Finish thread id outcome) k is refl refl refl refl
-one_more threads xs (event.Drain ids) k is =
-    called threads xs (event.Drain ids) ask.Drain _ k is refl refl (λ h. k.active h ∙ sym (active_same xs (event.Drain ids) h refl refl))
-one_more threads xs (event.HelperNew n None) k is =
-    called threads xs (event.HelperNew n None) (ask.HelperNew n) (Granted false) k is refl refl (λ h. k.active h ∙ sym (active_same xs (event.HelperNew n None) h refl refl))
-one_more threads xs (event.HelperNew n (Some t)) k is =
-    called threads xs (event.HelperNew n (Some t)) (ask.HelperNew n) (Granted true) k is refl refl
+one_more : (threads askers : ℕ) (xs : List Event) (e : Event) → Alike threads askers xs → IsLegalAfter threads askers xs e → Alike threads askers (xs ++ e ∷ [])
+one_more threads askers xs (event.Submit id work helper) k is =
+    called threads askers xs (event.Submit id work helper) (ask.Submit id work helper) Done k is refl refl (λ h. k.active h ∙ sym (active_same xs (event.Submit id work helper) h refl refl))
+one_more threads askers xs (event.Start thread id) k is = uncalled threads askers xs (event.Start thread id) k is refl refl refl refl
+one_more threads askers xs (event.Finish thread id outcome) k is = uncalled threads askers xs (event.Finish thread id outcome) k is refl refl refl refl
+one_more threads askers xs (event.Request q asker n) k is = uncalled threads askers xs (event.Request q asker n) k is refl refl refl refl
+one_more threads askers xs (event.AskerEnd asker) k is = uncalled threads askers xs (event.AskerEnd asker) k is refl refl refl refl
+one_more threads askers xs (event.Drain ids requests) k is =
+    called threads askers xs (event.Drain ids requests) ask.Drain _ k is refl refl (λ h. k.active h ∙ sym (active_same xs (event.Drain ids requests) h refl refl))
+one_more threads askers xs (event.Answered q v) k is =
+    called threads askers xs (event.Answered q v) (ask.Answer q v) Done k is refl refl (λ h. k.active h ∙ sym (active_same xs (event.Answered q v) h refl refl))
+one_more threads askers xs (event.HelperNew n None) k is =
+    called threads askers xs (event.HelperNew n None) (ask.HelperNew n) (Granted false) k is refl refl (λ h. k.active h ∙ sym (active_same xs (event.HelperNew n None) h refl refl))
+one_more threads askers xs (event.HelperNew n (Some t)) k is =
+    called threads askers xs (event.HelperNew n (Some t)) (ask.HelperNew n) (Granted true) k is refl refl
     (λ h.
     let g = list_any (names h) (filter_map reserved_in xs) in
     let d = is_among (filter_map ended_in xs) h in
-    list_any-append (is_number h) (active_helpers (asks xs) (replies xs)) (n ∷ [])
+    list_any-append (is_number h) (active_helpers (asks xs) (replies askers xs)) (n ∷ [])
     ∙ (ap (λ b. b || ((n == h) || false)) (k.active h)
-    ∙ (begins g d (n == h) (λ e. ap (is_among (filter_map ended_in xs)) (sym (eqb-true n h e)) ∙ not_ended threads xs n k.legal is.rule.0)
+    ∙ (begins g d (n == h) (λ e. ap (is_among (filter_map ended_in xs)) (sym (eqb-true n h e)) ∙ not_ended threads askers xs n k.legal is.rule.0)
     ∙ sym
     (active_parts xs (event.HelperNew n (Some t)) h
     ∙ (λ i. list_any-append (names h) (filter_map reserved_in xs) (record { helper = n; thread = t } ∷ []) i && not (is_among (append-nil (filter_map ended_in xs) i) h))))))
-one_more threads xs (event.HelperEnd n) k is =
-    called threads xs (event.HelperEnd n) (ask.HelperEnd n) Done k is refl refl
+one_more threads askers xs (event.HelperEnd n) k is =
+    called threads askers xs (event.HelperEnd n) (ask.HelperEnd n) Done k is refl refl
     (λ h.
     let g = list_any (names h) (filter_map reserved_in xs) in
     let d = is_among (filter_map ended_in xs) h in
-    any_kept h n (active_helpers (asks xs) (replies xs))
+    any_kept h n (active_helpers (asks xs) (replies askers xs))
     ∙ (ap (λ b. b && not (n == h)) (k.active h)
     ∙ (ends g d (n == h)
     ∙ sym
     (active_parts xs (event.HelperEnd n) h
     ∙ (λ i. list_any (names h) (append-nil (filter_map reserved_in xs) i) && not (list_any-append (λ (other : ℕ). other == h) (filter_map ended_in xs) (n ∷ []) i))))))
-one_more threads xs event.Close k is =
-    called threads xs event.Close ask.Close Done k is refl refl (λ h. k.active h ∙ sym (active_same xs event.Close h refl refl))
+one_more threads askers xs event.Close k is =
+    called threads askers xs event.Close ask.Close Done k is refl refl (λ h. k.active h ∙ sym (active_same xs event.Close h refl refl))
 
 -- the scheduler's calls and replies tell which helpers are active
-pub alike : (threads : ℕ) (xs : List Event) → Legal threads xs → Alike threads xs
-alike threads xs h = legal_keeps threads (Alike threads) (record { legal = tt; same = refl; active = λ h. refl }) (λ ys e k is. one_more threads ys e k is) xs h
+pub alike : (threads askers : ℕ) (xs : List Event) → Legal threads askers xs → Alike threads askers xs
+alike threads askers xs h = legal_keeps threads askers (Alike threads askers) (record { legal = tt; same = refl; active = λ h. refl }) (λ ys e k is. one_more threads askers ys e k is) xs h
 
-pub served_alike : (threads : ℕ) (xs : List Event) (helper : Option ℕ) → Legal threads xs → IsServedBy (asks xs) (replies xs) helper → IsServed xs helper
-served_alike threads xs None h is = tt
-served_alike threads xs (Some n) h is = sym ((alike threads xs h).active n) ∙ is
+pub served_alike : (threads askers : ℕ) (xs : List Event) (helper : Option ℕ) → Legal threads askers xs → IsServedBy (asks xs) (replies askers xs) helper → IsServed xs helper
+served_alike threads askers xs None h is = tt
+served_alike threads askers xs (Some n) h is = sym ((alike threads askers xs h).active n) ∙ is
 
 -- how many helpers were asked for
 pub helpers_alike : (xs : List Event) → count_by is_helper_new xs ≡ length (filter_map helper_in (asks xs))
@@ -164,7 +168,10 @@ helpers_alike [] = refl
 helpers_alike (event.Submit id work helper ∷ xs) = omega (arith, count_cons is_helper_new (event.Submit id work helper) xs, helpers_alike xs)
 helpers_alike (event.Start thread id ∷ xs) = omega (arith, count_cons is_helper_new (event.Start thread id) xs, helpers_alike xs)
 helpers_alike (event.Finish thread id outcome ∷ xs) = omega (arith, count_cons is_helper_new (event.Finish thread id outcome) xs, helpers_alike xs)
-helpers_alike (event.Drain ids ∷ xs) = omega (arith, count_cons is_helper_new (event.Drain ids) xs, helpers_alike xs)
+helpers_alike (event.Request req asker num ∷ xs) = omega (arith, count_cons is_helper_new (event.Request req asker num) xs, helpers_alike xs)
+helpers_alike (event.AskerEnd asker ∷ xs) = omega (arith, count_cons is_helper_new (event.AskerEnd asker) xs, helpers_alike xs)
+helpers_alike (event.Drain ids requests ∷ xs) = omega (arith, count_cons is_helper_new (event.Drain ids requests) xs, helpers_alike xs)
+helpers_alike (event.Answered req num ∷ xs) = omega (arith, count_cons is_helper_new (event.Answered req num) xs, helpers_alike xs)
 helpers_alike (event.HelperNew h answer ∷ xs) = omega (arith, count_cons is_helper_new (event.HelperNew h answer) xs, helpers_alike xs)
 helpers_alike (event.HelperEnd h ∷ xs) = omega (arith, count_cons is_helper_new (event.HelperEnd h) xs, helpers_alike xs)
 helpers_alike (event.Close ∷ xs) = omega (arith, count_cons is_helper_new event.Close xs, helpers_alike xs)

@@ -8,3 +8,5 @@ pub mod Helpers
 pub mod Owed
 pub mod Once
 pub mod Out
+pub mod Quiet
+pub mod Requests

@@ -17,7 +17,7 @@ use Rattle.ak_trace.specs.declared.entry.Entry.TheVariants as entry
 use Rattle.ak_trace.specs.declared.entry.Ending.TheVariants as ending
 use Rattle.ak_history_laws.proofs.Threads.{begun_append}
 use Rattle.ak_history_laws.specs.Once.{starts_of, StartedOnce, StartOnce}
-use Rattle.ak_history_laws.proofs.Arrivals.{handed_alike, brought}
+use Rattle.ak_history_laws.proofs.Arrivals.{handed_alike, brought_is}
 use Rattle.ak_history_laws.proofs.Parts.{bit, count_more, count_none, count_some}
 
 not_begun : (threads : ℕ) (before : List Event) (thread id : ℕ) (o : Option Handed) → Starts threads before thread id o → is_begun before id ≡ false
@@ -31,9 +31,9 @@ none_more : (id : ℕ) (xs : List Event) (e : Event) → begun (e ∷ []) ≡ []
 none_more id xs e none k =
     subst (λ l. count_by (λ (b : Begun). b.id == id) l ≤ 1) (sym (begun_append xs (e ∷ []) ∙ (ap (λ l. begun xs ++ l) none ∙ append-nil (begun xs)))) k
 
-one_start : (threads id : ℕ) (xs : List Event) (e : Event) → AtMost id xs → IsLegalAfter threads xs e → AtMost id (xs ++ e ∷ [])
-one_start threads id xs (event.Submit n work helper) k is = none_more id xs (event.Submit n work helper) refl k
-one_start threads id xs (event.Start thread n) k is =
+one_start : (threads askers id : ℕ) (xs : List Event) (e : Event) → AtMost id xs → IsLegalAfter threads askers xs e → AtMost id (xs ++ e ∷ [])
+one_start threads askers id xs (event.Submit n work helper) k is = none_more id xs (event.Submit n work helper) refl k
+one_start threads askers id xs (event.Start thread n) k is =
     subst (λ l. count_by (λ (b : Begun). b.id == id) l ≤ 1) (sym (begun_append xs (event.Start thread n ∷ []))) (one (n == id) refl)
   where
     fresh : is_begun xs n ≡ false
@@ -48,14 +48,17 @@ one_start threads id xs (event.Start thread n) k is =
         omega (arith, count_more (λ (b : Begun). b.id == id) (begun xs) new, ap bit is_it, count_none (λ (b : Begun). b.id == id) (begun xs) none)
     one false is_it =
         omega (arith, count_more (λ (b : Begun). b.id == id) (begun xs) new, ap bit is_it, k)
-one_start threads id xs (event.Finish thread n outcome) k is = none_more id xs (event.Finish thread n outcome) refl k
-one_start threads id xs (event.Drain ids) k is = none_more id xs (event.Drain ids) refl k
-one_start threads id xs (event.HelperNew h answer) k is = none_more id xs (event.HelperNew h answer) refl k
-one_start threads id xs (event.HelperEnd h) k is = none_more id xs (event.HelperEnd h) refl k
-one_start threads id xs event.Close k is = none_more id xs event.Close refl k
+one_start threads askers id xs (event.Finish thread n outcome) k is = none_more id xs (event.Finish thread n outcome) refl k
+one_start threads askers id xs (event.Request req asker num) k is = none_more id xs (event.Request req asker num) refl k
+one_start threads askers id xs (event.AskerEnd asker) k is = none_more id xs (event.AskerEnd asker) refl k
+one_start threads askers id xs (event.Drain ids requests) k is = none_more id xs (event.Drain ids requests) refl k
+one_start threads askers id xs (event.Answered req num) k is = none_more id xs (event.Answered req num) refl k
+one_start threads askers id xs (event.HelperNew h answer) k is = none_more id xs (event.HelperNew h answer) refl k
+one_start threads askers id xs (event.HelperEnd h) k is = none_more id xs (event.HelperEnd h) refl k
+one_start threads askers id xs event.Close k is = none_more id xs event.Close refl k
 
-at_most_once : (threads : ℕ) (xs : List Event) → Legal threads xs → (id : ℕ) → starts_of xs id ≤ 1
-at_most_once threads xs h id = legal_keeps threads (AtMost id) (omega arith) (λ ys e k is. one_start threads id ys e k is) xs h
+at_most_once : (threads askers : ℕ) (xs : List Event) → Legal threads askers xs → (id : ℕ) → starts_of xs id ≤ 1
+at_most_once threads askers xs h id = legal_keeps threads askers (AtMost id) (omega arith) (λ ys e k is. one_start threads askers id ys e k is) xs h
 
 -- an item of a list that holds a number
 pub each_among : (P : ℕ → Type 0) (ids : List ℕ) (id : ℕ) → Each P ids → is_among ids id ≡ true → P id
@@ -90,19 +93,19 @@ all_map : {A : Type 0} (P Q : A → Type 0) → ((x : A) → P x → Q x) → (x
 all_map P Q f [] h = tt
 all_map P Q f (x ∷ xs) h = (f x h.0, all_map P Q f xs h.1)
 
-once_begun : (threads : ℕ) (xs : List Event) → Legal threads xs → (w : Handed) → is_out (replies xs) w ≡ false → StartedOnce xs w
-once_begun threads xs h w came =
-    let stands = (left_by threads xs h).stands in
-    let drained : is_among (flat_map drained_in xs) w.id ≡ true = sym (brought xs xs w.id) ∙ not_out (list_any (is_pair_of w.id) (flat_map pairs_in (replies xs))) came in
+once_begun : (threads askers : ℕ) (xs : List Event) → Legal threads askers xs → (w : Handed) → is_out (replies askers xs) w ≡ false → StartedOnce xs w
+once_begun threads askers xs h w came =
+    let stands = (left_by threads askers xs h).stands in
+    let drained : is_among (flat_map drained_in xs) w.id ≡ true = sym (brought_is threads askers xs w.id h) ∙ not_out (list_any (is_pair_of w.id) (flat_map pairs_in (replies askers xs))) came in
     let done : is_finished xs w.id ≡ true = each_among (λ id. is_finished xs id ≡ true) (flat_map drained_in xs) w.id stands.finished_first drained in
     let started : is_begun xs w.id ≡ true = each_finished (λ id. is_begun xs id ≡ true) (finished xs) w.id stands.begun_first done in
     let least : 1 ≤ starts_of xs w.id = count_some (λ (b : Begun). b.id == w.id) (begun xs) started in
-    omega (arith, least, at_most_once threads xs h w.id)
+    omega (arith, least, at_most_once threads askers xs h w.id)
 
-pub start_once : (threads : ℕ) (trace : List Entry) (xs : List Event) → Legal threads xs → ((before : List Entry) → trace ≡ before ++ entry.End ending.Idle ∷ [] → outstanding (asks xs) (replies xs) ≡ []) → StartOnce trace xs
-start_once threads trace xs h idle = record {
-  at_most = at_most_once threads xs h;
+pub start_once : (threads askers : ℕ) (trace : List Entry) (xs : List Event) → Legal threads askers xs → ((before : List Entry) → trace ≡ before ++ entry.End ending.Idle ∷ [] → outstanding (asks xs) (replies askers xs) ≡ []) → StartOnce trace xs
+start_once threads askers trace xs h idle = record {
+  at_most = at_most_once threads askers xs h;
   exactly = λ before ends.
-      all_map (λ w. is_out (replies xs) w ≡ false) (StartedOnce xs) (once_begun threads xs h) (handed xs)
-      (none_kept (is_out (replies xs)) (handed xs) (subst (λ l. filter (is_out (replies xs)) l ≡ []) (handed_alike xs) (idle before ends)));
+      all_map (λ w. is_out (replies askers xs) w ≡ false) (StartedOnce xs) (once_begun threads askers xs h) (handed xs)
+      (none_kept (is_out (replies askers xs)) (handed xs) (subst (λ l. filter (is_out (replies askers xs)) l ≡ []) (handed_alike xs) (idle before ends)));
 }

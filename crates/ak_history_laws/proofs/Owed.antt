@@ -1,46 +1,54 @@
--- What the events of workers and of the scheduler leave of the calls, of the replies and of what is owed.
+-- What the events of threads, askers and the scheduler leave of the calls, of the replies and of what is owed.
 use Rattle.std.proofs.Common.{◌≡◌, ◌≢◌, ℕ, Bool, true, List, [], ◌∷◌, ◌++◌, refl, sym, ap, subst, ◌∙◌, append-nil}
-use Rattle.std.specs.Prelude.{not, ◌==◌, pos, map, filter, find, unwrap_or}
-use Rattle.std.specs.Option.{option_map}
-use Rattle.std.specs.List.{list_any, filter_map, flat_map, AllByRecursion as Each}
+use Rattle.std.specs.Prelude.{not, map, filter}
+use Rattle.std.specs.List.{list_any, flat_map, AllByRecursion as Each}
 use Rattle.std.proofs.lemmas.List.{map-append}
 use Rattle.std.proofs.lemmas.List.Elements.{filter-append}
 use Rattle.std.proofs.lemmas.Grind.{flat_map-append}
 use Rattle.ak_labor.specs.declared.work.Outcome.{Outcome}
-use Rattle.ak_labor.specs.declared.work.Outcome.TheVariants.{Good}
 use Rattle.ak_labor.specs.declared.ask.Ask.{Ask}
 use Rattle.ak_labor.specs.declared.ask.Ask.TheVariants as ask
-use Rattle.ak_labor.specs.Calls.{Pairs, IsOpen, is_close as is_close_ask}
+use Rattle.ak_labor.specs.Calls.{Drained, IsOpen, is_close as is_close_ask}
 use Rattle.ak_history.specs.declared.event.Event.{Event}
 use Rattle.ak_history.specs.declared.event.Event.TheVariants as event
-use Rattle.ak_history.specs.Events.{finished, drained_in, is_among, is_close, owed}
+use Rattle.ak_history.specs.Events.{finished, drained_in, is_among, is_close, owed, unfetched}
 use Rattle.ak_history.specs.Legal.{Legal}
-use Rattle.ak_history.specs.Scheduler.{asks, reply_in, replies}
-use Rattle.ak_pool.specs.Pools.{owed_pairs, IsOpen as IsOpenPool}
+use Rattle.ak_history.specs.Scheduler.{asks, replies_after, replies}
+use Rattle.ak_pool.specs.Pools.{owed_pairs, brought, IsOpen as IsOpenPool}
 use Rattle.ak_pool.proofs.Helpers.{map_filter}
-use Rattle.ak_history_laws.specs.Behind.{IsByWorker, Behind}
+use Rattle.ak_history_laws.specs.Behind.{IsNotByScheduler, Behind}
 use Rattle.ak_history_laws.proofs.Parts.{or_true}
 use Rattle.ak_history_laws.proofs.Threads.{finished_append}
-use Rattle.ak_history_laws.proofs.Workers.{of_workers, asks_stay, drained_stay}
+use Rattle.ak_history_laws.proofs.Workers.{asks_stay, drained_stay}
 use Rattle.ak_history_laws.proofs.Replies.{closed_alike, replies_more, drain_reply}
 
 -- where the calls are open, so is the pool
-pub open_history : (xs : List Event) → IsOpen (asks xs) (replies xs) → IsOpenPool xs
-open_history xs h = sym (closed_alike xs) ∙ h.0
+pub open_history : (askers : ℕ) (xs : List Event) → IsOpen (asks xs) (replies askers xs) → IsOpenPool xs
+open_history askers xs h = sym (closed_alike xs) ∙ h.0
 
-no_replies : (whole ys : List Event) → Each IsByWorker ys → filter_map (reply_in whole) ys ≡ []
-no_replies whole ys h = of_workers (λ l. filter_map (reply_in whole) l ≡ []) refl (λ t id l k. k) (λ t id o l k. k) ys h
+no_replies : (askers : ℕ) (before ys : List Event) → Each IsNotByScheduler ys → replies_after askers before ys ≡ []
+no_replies askers before [] h = refl
+no_replies askers before (event.Submit id work helper ∷ ys) h = absurd h.0
+no_replies askers before (event.Start thread id ∷ ys) h = no_replies askers (before ++ event.Start thread id ∷ []) ys h.1
+no_replies askers before (event.Finish thread id outcome ∷ ys) h = no_replies askers (before ++ event.Finish thread id outcome ∷ []) ys h.1
+no_replies askers before (event.Request q asker n ∷ ys) h = no_replies askers (before ++ event.Request q asker n ∷ []) ys h.1
+no_replies askers before (event.AskerEnd asker ∷ ys) h = no_replies askers (before ++ event.AskerEnd asker ∷ []) ys h.1
+no_replies askers before (event.Drain ids requests ∷ ys) h = absurd h.0
+no_replies askers before (event.Answered q v ∷ ys) h = absurd h.0
+no_replies askers before (event.HelperNew no' answer ∷ ys) h = absurd h.0
+no_replies askers before (event.HelperEnd no' ∷ ys) h = absurd h.0
+no_replies askers before (event.Close ∷ ys) h = absurd h.0
 
 -- behind what the scheduler has seen stand no calls and no replies
-pub calls_behind : (threads : ℕ) (seen whole : List Event) → Legal threads seen → Behind IsByWorker seen whole → (asks whole ≡ asks seen) × (replies whole ≡ replies seen)
-calls_behind threads seen whole legal b = (
+pub calls_behind : (askers : ℕ) (seen whole : List Event) → Behind IsNotByScheduler seen whole → (asks whole ≡ asks seen) × (replies askers whole ≡ replies askers seen)
+calls_behind askers seen whole b = (
   ap asks b.whole_is ∙ asks_stay seen b.rest b.others,
-  ap replies b.whole_is
-      ∙ (replies_more threads seen b.rest legal
-      ∙ (ap (λ l. replies seen ++ l) (no_replies (seen ++ b.rest) b.rest b.others) ∙ append-nil (replies seen))),
+  ap (replies askers) b.whole_is
+      ∙ (replies_more askers seen b.rest
+      ∙ (ap (λ l. replies askers seen ++ l) (no_replies askers seen b.rest b.others) ∙ append-nil (replies askers seen))),
 )
 
-owed_more : (xs ys : List Event) → Each IsByWorker ys → owed xs ≢ [] → owed (xs ++ ys) ≢ []
+owed_more : (xs ys : List Event) → Each IsNotByScheduler ys → owed xs ≢ [] → owed (xs ++ ys) ≢ []
 owed_more xs ys h some = λ none. some (front (owed xs) (filter left (map (λ (f : ℕ × Outcome). f.0) (finished ys))) (sym goes ∙ none))
   where
     left : ℕ → Bool
@@ -56,8 +64,8 @@ owed_more xs ys h some = λ none. some (front (owed xs) (filter left (map (λ (f
     front [] bs e = refl
     front (a ∷ ns) bs e = absurd (cc e)
 
--- what is owed stays owed behind events of workers
-pub owed_behind : (seen whole : List Event) → Behind IsByWorker seen whole → owed seen ≢ [] → owed whole ≢ []
+-- what is owed stays owed behind events of threads and askers
+pub owed_behind : (seen whole : List Event) → Behind IsNotByScheduler seen whole → owed seen ≢ [] → owed whole ≢ []
 owed_behind seen whole b some = subst (λ l. owed l ≢ []) (sym b.whole_is) (owed_more seen b.rest b.others some)
 
 -- an event that finishes and drains nothing leaves what is owed
@@ -77,16 +85,9 @@ some_pairs xs some =
     λ none. some
     (sym (map_filter (λ id. not (is_among (flat_map drained_in xs) id)) (finished xs)) ∙ ap (map (λ (f : ℕ × Outcome). f.0)) none)
 
--- the reply to a drain, in the history that it ends
-pub reply_then : (threads : ℕ) (xs : List Event) → Legal threads xs → filter_map (reply_in (xs ++ event.Drain (owed xs) ∷ [])) (event.Drain (owed xs) ∷ []) ≡ Pairs (owed_pairs xs) ∷ []
-reply_then threads xs legal =
-    (λ i. Pairs (map (λ id. (id, outcome_of (same i) id)) (owed xs)) ∷ []) ∙ ap (λ l. Pairs l ∷ []) (drain_reply threads xs legal)
-  where
-    outcome_of : List (ℕ × Outcome) → ℕ → Outcome
-    outcome_of fs id = unwrap_or (option_map (λ (f : ℕ × Outcome). f.1) (find (λ (f : ℕ × Outcome). f.0 == id) fs)) (Good (pos 0))
-
-    same : finished (xs ++ event.Drain (owed xs) ∷ []) ≡ finished xs
-    same = finished_append xs (event.Drain (owed xs) ∷ []) ∙ append-nil (finished xs)
+-- the reply to a drain of what is owed and of what was not fetched
+pub reply_then : (threads askers : ℕ) (xs : List Event) → Legal threads askers xs → replies_after askers xs (event.Drain (owed xs) (unfetched xs) ∷ []) ≡ Drained (brought askers xs) ∷ []
+reply_then threads askers xs legal = ap (λ a. Drained a ∷ []) (drain_reply threads askers xs legal)
 
 -- where the last call is the close, a close has happened
 pub closed_now : (xs : List Event) (asked : List Ask) → asks xs ≡ asked ++ ask.Close ∷ [] → list_any is_close xs ≡ true

@@ -1,22 +1,24 @@
 -- The calls and replies of a legal history that grows.
-use Rattle.std.proofs.Common.{◌≡◌, ℕ, true, false, List, [], ◌∷◌, ◌++◌, refl, sym, ap, subst, ◌∙◌, append-nil}
-use Rattle.std.specs.Prelude.{not, ◌==◌, pos, map, find, Some, unwrap_or, is_some}
+use Rattle.std.proofs.Common.{◌≡◌, ℕ, ℤ, ◌<◌, true, false, List, [], ◌∷◌, ◌++◌, length, get_or, refl, sym, ap, subst, ◌∙◌, append-nil, append_assoc, arith}
+use Rattle.std.specs.Prelude.{not, ◌==◌, map, filter, find, Option, Some, None}
 use Rattle.std.specs.Option.{option_map}
-use Rattle.std.specs.List.{list_any, filter_map, flat_map}
+use Rattle.std.specs.List.{list_any, filter_map, flat_map, cons_option}
 use Rattle.std.proofs.lemmas.Bool.{eq-eqb, ne_eqb}
-use Rattle.std.proofs.lemmas.List.Elements.{filter_map-append}
+use Rattle.std.proofs.lemmas.List.{length-map, get_or-map}
 use Rattle.ak_labor.specs.declared.work.Outcome.{Outcome}
-use Rattle.ak_labor.specs.declared.work.Outcome.TheVariants.{Good}
-use Rattle.ak_labor.specs.Calls.{Pairs, Granted, Done, is_close as is_close_ask}
+use Rattle.ak_labor.specs.Calls.{Reply, is_close as is_close_ask}
 use Rattle.ak_history.specs.declared.event.Event.{Event}
 use Rattle.ak_history.specs.declared.event.Event.TheVariants as event
-use Rattle.ak_history.specs.Events.{finished, drained_in, is_finished, is_among, is_close, owed}
+use Rattle.ak_history.specs.Events.{Asking, asked, finished, drained_in, is_finished, is_fetched, is_among, is_close, owed, unfetched, askers_left}
 use Rattle.ak_history.specs.Legal.{Legal, IsLegalAfter}
-use Rattle.ak_history.specs.Scheduler.{asks, outcome_in, reply_in, replies}
-use Rattle.ak_pool.specs.Pools.{owed_pairs}
+use Rattle.ak_history.specs.Scheduler.{asks, finish_in, request_in, arrived_in, reply_in, reply_before, replies_after, replies}
+use Rattle.ak_pool.specs.Askers.{RequestsState, asking_of, no_request}
+use Rattle.ak_pool.specs.AskersStand.{AskersStand, request_facts}
+use Rattle.ak_pool.specs.Pools.{owed_pairs, request_pairs, brought}
 use Rattle.ak_pool.specs.Stands.{Each}
-use Rattle.ak_pool.proofs.Items.{some_found, find_more, find_last, none_found, each_map, each_append, each_filter, any_none}
+use Rattle.ak_pool.proofs.Items.{find_more, find_last, none_found, each_map, each_append, each_filter, any_none}
 use Rattle.ak_pool.proofs.Helpers.{map_filter}
+use Rattle.ak_pool.proofs.Ranges.{each_at, find_at, filter_mapped}
 use Rattle.ak_history_laws.proofs.Legals.{legal_keeps, left_by}
 use Rattle.ak_history_laws.proofs.Threads.{finished_append}
 
@@ -26,50 +28,34 @@ closed_alike [] = refl
 closed_alike (event.Submit id work helper ∷ xs) = closed_alike xs
 closed_alike (event.Start thread id ∷ xs) = closed_alike xs
 closed_alike (event.Finish thread id outcome ∷ xs) = closed_alike xs
-closed_alike (event.Drain ids ∷ xs) = closed_alike xs
+closed_alike (event.Request req asker num ∷ xs) = closed_alike xs
+closed_alike (event.AskerEnd asker ∷ xs) = closed_alike xs
+closed_alike (event.Drain ids requests ∷ xs) = closed_alike xs
+closed_alike (event.Answered req num ∷ xs) = closed_alike xs
 closed_alike (event.HelperNew h answer ∷ xs) = closed_alike xs
 closed_alike (event.HelperEnd h ∷ xs) = closed_alike xs
 closed_alike (event.Close ∷ xs) = refl
 
 -- each work that was drained was finished
-pub drained_done : (threads : ℕ) (xs : List Event) → Legal threads xs → Each (λ id. is_finished xs id ≡ true) (flat_map drained_in xs)
-drained_done threads xs h = (left_by threads xs h).stands.finished_first
+pub drained_done : (threads askers : ℕ) (xs : List Event) → Legal threads askers xs → Each (λ id. is_finished xs id ≡ true) (flat_map drained_in xs)
+drained_done threads askers xs h = (left_by threads askers xs h).stands.finished_first
 
--- what a finished work came to stays so
-outcome_same : (xs ys : List Event) (id : ℕ) → is_finished xs id ≡ true → outcome_in (xs ++ ys) id ≡ outcome_in xs id
-outcome_same xs ys id h =
-    let one = some_found (λ (f : ℕ × Outcome). f.0 == id) (finished xs) h in
-    let more : find (λ (f : ℕ × Outcome). f.0 == id) (finished (xs ++ ys)) ≡ find (λ (f : ℕ × Outcome). f.0 == id) (finished xs) =
-    ap (find (λ (f : ℕ × Outcome). f.0 == id)) (finished_append xs ys) ∙ (find_more (λ (f : ℕ × Outcome). f.0 == id) (finished xs) (finished ys) one.0 one.1 ∙ sym one.1) in
-    ap (λ o. unwrap_or (option_map (λ (f : ℕ × Outcome). f.1) o) (Good (pos 0))) more
-
-map_same : {B : Type 0} (f g : ℕ → B) (xs : List ℕ) → Each (λ x. f x ≡ g x) xs → map f xs ≡ map g xs
-map_same f g [] h = refl
-map_same f g (x ∷ xs) h = λ i. h.0 i ∷ map_same f g xs h.1 i
-
-each_first : {A : Type 0} (P : A → Type 0) (xs ys : List A) → Each P (xs ++ ys) → Each P xs × Each P ys
-each_first P [] ys h = (tt, h)
-each_first P (x ∷ xs) ys h = let k = each_first P xs ys h.1 in ((h.0, k.0), k.1)
-
--- replies to these events don't change as the history grows
-replies_over : (xs ys zs : List Event) → Each (λ id. is_finished xs id ≡ true) (flat_map drained_in zs) → filter_map (reply_in (xs ++ ys)) zs ≡ filter_map (reply_in xs) zs
-replies_over xs ys [] h = refl
-replies_over xs ys (event.Submit id work helper ∷ zs) h = ap (λ l. Done ∷ l) (replies_over xs ys zs h)
-replies_over xs ys (event.Start thread id ∷ zs) h = replies_over xs ys zs h
-replies_over xs ys (event.Finish thread id outcome ∷ zs) h = replies_over xs ys zs h
-replies_over xs ys (event.Drain ids ∷ zs) h =
-    let k = each_first (λ id. is_finished xs id ≡ true) ids (flat_map drained_in zs) h in
-    let same : map (λ id. (id, outcome_in (xs ++ ys) id)) ids ≡ map (λ id. (id, outcome_in xs id)) ids =
-    map_same (λ id. (id, outcome_in (xs ++ ys) id)) (λ id. (id, outcome_in xs id)) ids (each_map (λ id. is_finished xs id ≡ true) (λ id. (id, outcome_in (xs ++ ys) id) ≡ (id, outcome_in xs id)) (λ id d. ap (λ o. (id, o)) (outcome_same xs ys id d)) ids k.0) in
-    λ i. Pairs (same i) ∷ replies_over xs ys zs k.1 i
-replies_over xs ys (event.HelperNew no' answer ∷ zs) h = ap (λ l. Granted (is_some answer) ∷ l) (replies_over xs ys zs h)
-replies_over xs ys (event.HelperEnd no' ∷ zs) h = ap (λ l. Done ∷ l) (replies_over xs ys zs h)
-replies_over xs ys (event.Close ∷ zs) h = ap (λ l. Done ∷ l) (replies_over xs ys zs h)
+-- the replies to the calls of some events and of others behind them
+pub replies_append : (askers : ℕ) (before xs ys : List Event) → replies_after askers before (xs ++ ys) ≡ replies_after askers before xs ++ replies_after askers (before ++ xs) ys
+replies_append askers before [] ys = ap (λ l. replies_after askers l ys) (sym (append-nil before))
+replies_append askers before (x ∷ xs) ys =
+    ap (reply_before (reply_in askers before x)) (replies_append askers (before ++ x ∷ []) xs ys)
+    ∙ (front_of (reply_in askers before x)
+    ∙ ap (λ l. reply_before (reply_in askers before x) (replies_after askers (before ++ x ∷ []) xs) ++ replies_after askers l ys) (append_assoc before (x ∷ []) xs))
+  where
+    front_of : (o : Option Reply) → reply_before o (replies_after askers (before ++ x ∷ []) xs ++ replies_after askers ((before ++ x ∷ []) ++ xs) ys)
+        ≡ reply_before o (replies_after askers (before ++ x ∷ []) xs) ++ replies_after askers ((before ++ x ∷ []) ++ xs) ys
+    front_of None = refl
+    front_of (Some reply) = refl
 
 -- the replies in a longer history: the same, and those to the further events
-pub replies_more : (threads : ℕ) (xs ys : List Event) → Legal threads xs → replies (xs ++ ys) ≡ replies xs ++ filter_map (reply_in (xs ++ ys)) ys
-replies_more threads xs ys h =
-    filter_map-append (reply_in (xs ++ ys)) xs ys ∙ ap (λ l. l ++ filter_map (reply_in (xs ++ ys)) ys) (replies_over xs ys xs (drained_done threads xs h))
+pub replies_more : (askers : ℕ) (xs ys : List Event) → replies askers (xs ++ ys) ≡ replies askers xs ++ replies_after askers xs ys
+replies_more askers xs ys = replies_append askers [] xs ys
 
 -- each finished work is found with its outcome, and no two have one number
 abbrev pub AreFound : List (ℕ × Outcome) → Type 0
@@ -94,35 +80,82 @@ found_last fs f h k =
     (find_last (λ g. g.0 == f.0) fs f (none_found (λ g. g.0 == f.0) fs k) (eq-eqb f.0 f.0 refl), tt)
 
 -- a law of the finished works, kept by each finish
-of_finished : (threads : ℕ) (P : List (ℕ × Outcome) → Type 0) → P [] → ((fs : List (ℕ × Outcome)) (f : ℕ × Outcome) → P fs → list_any (λ g. g.0 == f.0) fs ≡ false → P (fs ++ f ∷ [])) → (history : List Event) → Legal threads history → P (finished history)
-of_finished threads P start step history h =
-    legal_keeps threads (λ xs. P (finished xs)) start (λ xs e k is. subst P (sym (finished_append xs (e ∷ []))) (one xs e k is)) history h
+of_finished : (threads askers : ℕ) (P : List (ℕ × Outcome) → Type 0) → P [] → ((fs : List (ℕ × Outcome)) (f : ℕ × Outcome) → P fs → list_any (λ g. g.0 == f.0) fs ≡ false → P (fs ++ f ∷ [])) → (history : List Event) → Legal threads askers history → P (finished history)
+of_finished threads askers P start step history h =
+    legal_keeps threads askers (λ xs. P (finished xs)) start (λ xs e k is. subst P (sym (finished_append xs (e ∷ []))) (one xs e k is)) history h
   where
-    one : (xs : List Event) (e : Event) → P (finished xs) → IsLegalAfter threads xs e → P (finished xs ++ finished (e ∷ []))
+    one : (xs : List Event) (e : Event) → P (finished xs) → IsLegalAfter threads askers xs e → P (finished xs ++ finished (e ∷ []))
     one xs (event.Submit id work helper) k is = rw append-nil k
     one xs (event.Start thread id) k is = rw append-nil k
     one xs (event.Finish thread id outcome) k is = step (finished xs) (id, outcome) k is.rule.1
-    one xs (event.Drain ids) k is = rw append-nil k
+    one xs (event.Request req asker num) k is = rw append-nil k
+    one xs (event.AskerEnd asker) k is = rw append-nil k
+    one xs (event.Drain ids requests) k is = rw append-nil k
+    one xs (event.Answered req num) k is = rw append-nil k
     one xs (event.HelperNew no' answer) k is = rw append-nil k
     one xs (event.HelperEnd no') k is = rw append-nil k
     one xs event.Close k is = rw append-nil k
 
-pub finished_found : (threads : ℕ) (xs : List Event) → Legal threads xs → AreFound (finished xs)
-finished_found threads xs h = of_finished threads AreFound tt (λ fs f k none. found_last fs f k none) xs h
+pub finished_found : (threads askers : ℕ) (xs : List Event) → Legal threads askers xs → AreFound (finished xs)
+finished_found threads askers xs h = of_finished threads askers AreFound tt (λ fs f k none. found_last fs f k none) xs h
 
-pub finished_apart : (threads : ℕ) (xs : List Event) → Legal threads xs → AreApart (finished xs)
-finished_apart threads xs h =
-    of_finished threads AreApart tt (λ fs f k none. apart_last fs f k (any_none (λ g. g.0 == f.0) fs none)) xs h
+pub finished_apart : (threads askers : ℕ) (xs : List Event) → Legal threads askers xs → AreApart (finished xs)
+finished_apart threads askers xs h =
+    of_finished threads askers AreApart tt (λ fs f k none. apart_last fs f k (any_none (λ g. g.0 == f.0) fs none)) xs h
 
-with_outcomes : (g : ℕ → Outcome) (fs : List (ℕ × Outcome)) → Each (λ f. g f.0 ≡ f.1) fs → map (λ id. (id, g id)) (map (λ (f : ℕ × Outcome). f.0) fs) ≡ fs
-with_outcomes g [] h = refl
-with_outcomes g (f ∷ fs) h = λ i. (f.0, h.0 i) ∷ with_outcomes g fs h.1 i
+found_again : (fs gs : List (ℕ × Outcome)) → Each (λ f. find (λ g. g.0 == f.0) fs ≡ Some f) gs → filter_map (λ id. find (λ (g : ℕ × Outcome). g.0 == id) fs) (map (λ (f : ℕ × Outcome). f.0) gs) ≡ gs
+found_again fs [] h = refl
+found_again fs (g ∷ gs) h =
+    ap (λ o. cons_option o (filter_map (λ id. find (λ (f : ℕ × Outcome). f.0 == id) fs) (map (λ (f : ℕ × Outcome). f.0) gs))) h.0
+    ∙ ap (λ l. g ∷ l) (found_again fs gs h.1)
 
--- the reply to a drain is the pairs that are owed
-pub drain_reply : (threads : ℕ) (xs : List Event) → Legal threads xs → map (λ id. (id, outcome_in xs id)) (owed xs) ≡ owed_pairs xs
-drain_reply threads xs h =
+-- what the works come to that a drain fetches
+pub works_fetched : (threads askers : ℕ) (xs : List Event) → Legal threads askers xs → filter_map (finish_in xs) (owed xs) ≡ owed_pairs xs
+works_fetched threads askers xs h =
     let left = λ (id : ℕ). not (is_among (flat_map drained_in xs) id) in
-    let is : Each (λ f. outcome_in xs f.0 ≡ f.1) (finished xs) =
-    each_map (λ f. find (λ g. g.0 == f.0) (finished xs) ≡ Some f) (λ f. outcome_in xs f.0 ≡ f.1) (λ f e. ap (λ o. unwrap_or (option_map (λ (k : ℕ × Outcome). k.1) o) (Good (pos 0))) e) (finished xs) (finished_found threads xs h) in
-    ap (map (λ id. (id, outcome_in xs id))) (sym (map_filter left (finished xs)))
-    ∙ with_outcomes (outcome_in xs) (owed_pairs xs) (each_filter (λ f. outcome_in xs f.0 ≡ f.1) (λ (f : ℕ × Outcome). left f.0) (finished xs) is)
+    ap (filter_map (finish_in xs)) (sym (map_filter left (finished xs)))
+    ∙ found_again (finished xs) (owed_pairs xs) (each_filter (λ f. find (λ g. g.0 == f.0) (finished xs) ≡ Some f) (λ (f : ℕ × Outcome). left f.0) (finished xs) (finished_found threads askers xs h))
+
+-- ---- requests
+abbrev asked_pair : Asking → ℕ × ℤ
+asked_pair r = (r.no, r.num)
+
+request_found : (made all : List Asking) → Each (λ r. find (λ (s : Asking). s.no == r.no) all ≡ Some r) made
+    → filter_map (λ q. option_map asked_pair (find (λ (r : Asking). r.no == q) all)) (map (λ (r : Asking). r.no) made) ≡ map asked_pair made
+request_found [] all h = refl
+request_found (r ∷ made) all h =
+    ap (λ o. cons_option (option_map asked_pair o) (filter_map (λ q. option_map asked_pair (find (λ (s : Asking). s.no == q) all)) (map (λ (s : Asking). s.no) made))) h.0
+    ∙ ap (λ l. asked_pair r ∷ l) (request_found made all h.1)
+
+-- each request is found under its number
+asked_found : (askers : ℕ) (xs : List Event) (s : RequestsState) → AskersStand askers (request_facts xs) s → Each (λ r. find (λ (x : Asking). x.no == r.no) (asked xs) ≡ Some r) (asked xs)
+asked_found askers xs s st =
+    subst (λ l. Each (λ r. find (λ (x : Asking). x.no == r.no) l ≡ Some r) l) (sym st.asked)
+    (each_at (λ r. find (λ (x : Asking). x.no == r.no) (map asking_of s.made) ≡ Some r) (map asking_of s.made) (asking_of no_request) (λ q lt. here q (omega (arith, lt, length-map s.made asking_of))))
+  where
+    all : List Asking
+    all = map asking_of s.made
+
+    at : ℕ → Asking
+    at q = get_or (map asking_of s.made) q (asking_of no_request)
+
+    number : (q : ℕ) → q < length s.made → (at q).no ≡ q
+    number q lt = ap (λ (r : Asking). r.no) (get_or-map asking_of s.made q no_request (asking_of no_request) lt) ∙ st.numbered q lt
+
+    here : (q : ℕ) → q < length s.made → find (λ (x : Asking). x.no == (at q).no) (map asking_of s.made) ≡ Some (at q)
+    here q lt =
+        find_at (λ (x : Asking). x.no == (at q).no) (map asking_of s.made) (asking_of no_request) q (omega (arith, lt, length-map s.made asking_of)) (eq-eqb (at q).no (at q).no refl)
+        (λ j less. ne_eqb (at j).no (at q).no (λ e. absurd (omega (arith, e, number q lt, number j (omega (arith, less, lt)), less))))
+
+-- the requests with their numbers that a drain fetches
+pub requests_fetched : (threads askers : ℕ) (xs : List Event) → Legal threads askers xs → filter_map (request_in xs) (unfetched xs) ≡ request_pairs xs
+requests_fetched threads askers xs h =
+    let left = left_by threads askers xs h in
+    let bare = λ (r : Asking). not (is_fetched xs r.no) in
+    ap (filter_map (request_in xs)) (filter_mapped (λ q. not (is_fetched xs q)) (λ (r : Asking). r.no) (asked xs))
+    ∙ request_found (filter bare (asked xs)) (asked xs) (each_filter (λ r. find (λ (x : Asking). x.no == r.no) (asked xs) ≡ Some r) bare (asked xs) (asked_found askers xs left.requests left.asked))
+
+-- LAW. The reply to a drain of a legal history is what the pool brings by it.
+pub drain_reply : (threads askers : ℕ) (xs : List Event) → Legal threads askers xs → arrived_in askers xs (owed xs) (unfetched xs) ≡ brought askers xs
+drain_reply threads askers xs h =
+    λ i. record { works = works_fetched threads askers xs h i; requests = requests_fetched threads askers xs h i; left = askers_left askers xs }

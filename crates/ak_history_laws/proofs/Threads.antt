@@ -14,6 +14,7 @@ use Rattle.ak_history.specs.declared.event.Event.{Event}
 use Rattle.ak_history.specs.declared.event.Event.TheVariants as event
 use Rattle.ak_history.specs.Events.{Begun, begun, begun_in, finished, finished_in, handed, handed_in, is_begun, is_finished, is_running, is_close, reserved_in, work_at}
 use Rattle.ak_history.specs.Legal.{Legal, IsLegalAfter, HasValue, Starts}
+use Rattle.ak_pool.specs.Pools.{MayStart}
 use Rattle.ak_pool.specs.Stands.{IsBegunOnce}
 use Rattle.ak_pool.proofs.Items.{any_more, any_one, find_more, some_same}
 use Rattle.ak_pool.proofs.Starts.{unfinished}
@@ -55,7 +56,10 @@ runs_none t done [] h = refl
 runs_none t done (event.Submit id work helper ∷ ys) h = runs_none t done ys h.1
 runs_none t done (event.Start thread id ∷ ys) h = or_both (thread == t && not (done id)) (runs_of t done (begun ys)) (ap (λ b. b && not (done id)) h.0) (runs_none t done ys h.1)
 runs_none t done (event.Finish thread id outcome ∷ ys) h = runs_none t done ys h.1
-runs_none t done (event.Drain ids ∷ ys) h = runs_none t done ys h.1
+runs_none t done (event.Request req asker num ∷ ys) h = runs_none t done ys h.1
+runs_none t done (event.AskerEnd asker ∷ ys) h = runs_none t done ys h.1
+runs_none t done (event.Drain ids requests ∷ ys) h = runs_none t done ys h.1
+runs_none t done (event.Answered req num ∷ ys) h = runs_none t done ys h.1
 runs_none t done (event.HelperNew no' answer ∷ ys) h = runs_none t done ys h.1
 runs_none t done (event.HelperEnd no' ∷ ys) h = runs_none t done ys h.1
 runs_none t done (event.Close ∷ ys) h = runs_none t done ys h.1
@@ -86,7 +90,10 @@ abbrev pub IsOfBegun : List Begun → Event → Type 0
 IsOfBegun bs (event.Submit id work helper) = Unit {0}
 IsOfBegun bs (event.Start thread id) = Unit {0}
 IsOfBegun bs (event.Finish thread id outcome) = was_begun thread id bs ≡ true
-IsOfBegun bs (event.Drain ids) = Unit {0}
+IsOfBegun bs (event.Request req asker num) = Unit {0}
+IsOfBegun bs (event.AskerEnd asker) = Unit {0}
+IsOfBegun bs (event.Drain ids requests) = Unit {0}
+IsOfBegun bs (event.Answered req num) = Unit {0}
 IsOfBegun bs (event.HelperNew h answer) = Unit {0}
 IsOfBegun bs (event.HelperEnd h) = Unit {0}
 IsOfBegun bs event.Close = Unit {0}
@@ -95,19 +102,25 @@ of_more : (bs cs : List Begun) (e : Event) → IsOfBegun bs e → IsOfBegun (bs 
 of_more bs cs (event.Submit id work helper) h = tt
 of_more bs cs (event.Start thread id) h = tt
 of_more bs cs (event.Finish thread id outcome) h = any_more (λ (b : Begun). b.thread == thread && b.id == id) bs cs h
-of_more bs cs (event.Drain ids) h = tt
+of_more bs cs (event.Request req asker num) h = tt
+of_more bs cs (event.AskerEnd asker) h = tt
+of_more bs cs (event.Drain ids requests) h = tt
+of_more bs cs (event.Answered req num) h = tt
 of_more bs cs (event.HelperNew no' answer) h = tt
 of_more bs cs (event.HelperEnd no') h = tt
 of_more bs cs event.Close h = tt
 
-of_legal : (threads : ℕ) (xs : List Event) (e : Event) → IsLegalAfter threads xs e → IsOfBegun (begun xs) e
-of_legal threads xs (event.Submit id work helper) h = tt
-of_legal threads xs (event.Start thread id) h = tt
-of_legal threads xs (event.Finish thread id outcome) h = h.rule.0
-of_legal threads xs (event.Drain ids) h = tt
-of_legal threads xs (event.HelperNew no' answer) h = tt
-of_legal threads xs (event.HelperEnd no') h = tt
-of_legal threads xs event.Close h = tt
+of_legal : (threads askers : ℕ) (xs : List Event) (e : Event) → IsLegalAfter threads askers xs e → IsOfBegun (begun xs) e
+of_legal threads askers xs (event.Submit id work helper) h = tt
+of_legal threads askers xs (event.Start thread id) h = tt
+of_legal threads askers xs (event.Finish thread id outcome) h = h.rule.0
+of_legal threads askers xs (event.Request req asker num) h = tt
+of_legal threads askers xs (event.AskerEnd asker) h = tt
+of_legal threads askers xs (event.Drain ids requests) h = tt
+of_legal threads askers xs (event.Answered req num) h = tt
+of_legal threads askers xs (event.HelperNew no' answer) h = tt
+of_legal threads askers xs (event.HelperEnd no') h = tt
+of_legal threads askers xs event.Close h = tt
 
 each_more : {A : Type 0} (P Q : A → Type 0) → ((x : A) → P x → Q x) → (xs : List A) → Each P xs → Each Q xs
 each_more P Q f [] h = tt
@@ -122,18 +135,18 @@ each_last_part P [] ys h = h
 each_last_part P (x ∷ xs) ys h = each_last_part P xs ys h.1
 
 -- each finish of a legal history is of a work that its thread began
-pub finishes_of : (threads : ℕ) (history : List Event) → Legal threads history → Each (IsOfBegun (begun history)) history
-finishes_of threads history h =
-    legal_keeps threads (λ xs. Each (IsOfBegun (begun xs)) xs) tt
+pub finishes_of : (threads askers : ℕ) (history : List Event) → Legal threads askers history → Each (IsOfBegun (begun history)) history
+finishes_of threads askers history h =
+    legal_keeps threads askers (λ xs. Each (IsOfBegun (begun xs)) xs) tt
     (λ xs e k is.
     subst (λ bs. Each (IsOfBegun bs) (xs ++ e ∷ [])) (sym (begun_append xs (e ∷ [])))
-    (each_join (IsOfBegun (begun xs ++ begun (e ∷ []))) xs (e ∷ []) (each_more (IsOfBegun (begun xs)) (IsOfBegun (begun xs ++ begun (e ∷ []))) (λ x. of_more (begun xs) (begun (e ∷ [])) x) xs k) (of_more (begun xs) (begun (e ∷ [])) e (of_legal threads xs e is), tt)))
+    (each_join (IsOfBegun (begun xs ++ begun (e ∷ []))) xs (e ∷ []) (each_more (IsOfBegun (begun xs)) (IsOfBegun (begun xs ++ begun (e ∷ []))) (λ x. of_more (begun xs) (begun (e ∷ [])) x) xs k) (of_more (begun xs) (begun (e ∷ [])) e (of_legal threads askers xs e is), tt)))
     history h
 
 -- a work that a thread began is found with it
-found_begun : (threads : ℕ) (history : List Event) (t id : ℕ) → Legal threads history → was_begun t id (begun history) ≡ true → find (λ (b : Begun). b.id == id) (begun history) ≡ Some (record { thread = t; id = id })
-found_begun threads history t id h k =
-    let st = (left_by threads history h).stands in
+found_begun : (threads askers : ℕ) (history : List Event) (t id : ℕ) → Legal threads askers history → was_begun t id (begun history) ≡ true → find (λ (b : Begun). b.id == id) (begun history) ≡ Some (record { thread = t; id = id })
+found_begun threads askers history t id h k =
+    let st = (left_by threads askers history h).stands in
     let one = any_one (IsBegunOnce (handed history) (filter_map reserved_in history) (begun history)) (λ (b : Begun). b.thread == t && b.id == id) (begun history) st.begun_once k in
     let b = one.0 in
     let parts = and_parts (b.thread == t) (b.id == id) one.2 in
@@ -143,9 +156,9 @@ found_begun threads history t id h k =
     (subst (λ n. find (λ (x : Begun). x.id == b.id) (begun history) ≡ Some (record { thread = n; id = b.id })) thread one.1.once)
 
 -- one thread alone began a work
-pub one_thread : (threads : ℕ) (history : List Event) (t u id : ℕ) → Legal threads history → was_begun t id (begun history) ≡ true → was_begun u id (begun history) ≡ true → u ≡ t
-one_thread threads history t u id h k l =
-    ap (λ (b : Begun). b.thread) (some_same (record { thread = u; id = id }) (record { thread = t; id = id }) (sym (found_begun threads history u id h l) ∙ found_begun threads history t id h k))
+pub one_thread : (threads askers : ℕ) (history : List Event) (t u id : ℕ) → Legal threads askers history → was_begun t id (begun history) ≡ true → was_begun u id (begun history) ≡ true → u ≡ t
+one_thread threads askers history t u id h k l =
+    ap (λ (b : Begun). b.thread) (some_same (record { thread = u; id = id }) (record { thread = t; id = id }) (sym (found_begun threads askers history u id h l) ∙ found_begun threads askers history t id h k))
 
 -- events of other threads finish no work of this one
 none_finished : (bs : List Begun) (t id : ℕ) → ((u : ℕ) → was_begun u id bs ≡ true → u ≡ t) → (ys : List Event) → Each (IsOfBegun bs) ys → Each (IsNotByThread t) ys → list_any (λ (f : ℕ × Outcome). f.0 == id) (finished ys) ≡ false
@@ -156,7 +169,10 @@ none_finished bs t id only (event.Finish thread n outcome ∷ ys) of others =
     or_both (n == id) (list_any (λ (f : ℕ × Outcome). f.0 == id) (finished ys))
     (false_from_ne_true (n == id) (λ e. let mine : thread ≡ t = only thread (subst (λ m. was_begun thread m bs ≡ true) (eqb-true n id e) of.0) in absurd (cc (others.0, eq-eqb thread t mine))))
     (none_finished bs t id only ys of.1 others.1)
-none_finished bs t id only (event.Drain ids ∷ ys) of others = none_finished bs t id only ys of.1 others.1
+none_finished bs t id only (event.Request req asker num ∷ ys) of others = none_finished bs t id only ys of.1 others.1
+none_finished bs t id only (event.AskerEnd asker ∷ ys) of others = none_finished bs t id only ys of.1 others.1
+none_finished bs t id only (event.Drain ids requests ∷ ys) of others = none_finished bs t id only ys of.1 others.1
+none_finished bs t id only (event.Answered req num ∷ ys) of others = none_finished bs t id only ys of.1 others.1
 none_finished bs t id only (event.HelperNew no' answer ∷ ys) of others = none_finished bs t id only ys of.1 others.1
 none_finished bs t id only (event.HelperEnd no' ∷ ys) of others = none_finished bs t id only ys of.1 others.1
 none_finished bs t id only (event.Close ∷ ys) of others = none_finished bs t id only ys of.1 others.1
@@ -171,12 +187,12 @@ value_more xs ys id None outcome e h = absurd h
 value_more xs ys id (Some w) outcome e h = subst (λ o. HasValue o outcome) (sym (find_more (λ (w : Handed). w.id == id) xs ys w e)) h
 
 -- a finish that is legal stays so behind events of other threads
-pub finish_stays : (threads : ℕ) (xs ys : List Event) (t id : ℕ) (outcome : Outcome) → Legal threads (xs ++ ys) → Each (IsNotByThread t) ys → IsLegalAfter threads xs (event.Finish t id outcome) → IsLegalAfter threads (xs ++ ys) (event.Finish t id outcome)
-finish_stays threads xs ys t id outcome h others is =
+pub finish_stays : (threads askers : ℕ) (xs ys : List Event) (t id : ℕ) (outcome : Outcome) → Legal threads askers (xs ++ ys) → Each (IsNotByThread t) ys → IsLegalAfter threads askers xs (event.Finish t id outcome) → IsLegalAfter threads askers (xs ++ ys) (event.Finish t id outcome)
+finish_stays threads askers xs ys t id outcome h others is =
     let began : was_begun t id (begun (xs ++ ys)) ≡ true =
     ap (was_begun t id) (begun_append xs ys) ∙ any_more (λ (b : Begun). b.thread == t && b.id == id) (begun xs) (begun ys) is.rule.0 in
-    let only : (u : ℕ) → was_begun u id (begun (xs ++ ys)) ≡ true → u ≡ t = λ u k. one_thread threads (xs ++ ys) t u id h began k in
-    let of = each_last_part (IsOfBegun (begun (xs ++ ys))) xs ys (finishes_of threads (xs ++ ys) h) in
+    let only : (u : ℕ) → was_begun u id (begun (xs ++ ys)) ≡ true → u ≡ t = λ u k. one_thread threads askers (xs ++ ys) t u id h began k in
+    let of = each_last_part (IsOfBegun (begun (xs ++ ys))) xs ys (finishes_of threads askers (xs ++ ys) h) in
     record {
       open_or_late = and_no (list_any is_close (xs ++ ys));
       rule = (
@@ -195,10 +211,10 @@ started_new threads xs t id None h = absurd h
 started_new threads xs t id (Some w) h = h.0
 
 -- a thread that has just begun a work may finish it with its value
-pub may_finish : (threads : ℕ) (xs : List Event) (t id : ℕ) (work : Work) → Legal threads xs → IsLegalAfter threads xs (event.Start t id) → option_map (λ (w : Handed). w.work) (work_at xs id) ≡ Some work → IsLegalAfter threads (xs ++ event.Start t id ∷ []) (event.Finish t id (value_of work))
-may_finish threads xs t id work h is has =
-    let st = (left_by threads xs h).stands in
-    let new : is_begun xs id ≡ false = started_new threads xs t id (work_at xs id) is.rule in
+pub may_finish : (threads askers : ℕ) (xs : List Event) (t id : ℕ) (work : Work) → Legal threads askers xs → MayStart threads xs t id → option_map (λ (w : Handed). w.work) (work_at xs id) ≡ Some work → IsLegalAfter threads askers (xs ++ event.Start t id ∷ []) (event.Finish t id (value_of work))
+may_finish threads askers xs t id work h is has =
+    let st = (left_by threads askers xs h).stands in
+    let new : is_begun xs id ≡ false = started_new threads xs t id (work_at xs id) is.1 in
     let not_yet : is_finished xs id ≡ false = unfinished (begun xs) (finished xs) id st.begun_first new in
     let here : was_begun t id (begun (event.Start t id ∷ [])) ≡ true = ap (λ b. (b && id == id) || false) (eq-eqb t t refl) ∙ ap (λ b. b || false) (eq-eqb id id refl) in
     record {

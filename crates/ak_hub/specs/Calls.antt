@@ -1,6 +1,6 @@
 -- What each call of a hub leaves, by the pass before it and after it. Own; after Async's thread pool.
 use Rattle.std.specs.Prelude.{ℕ, ◌≡◌, ◌≢◌, ◌⊎◌, Bool, List, [], ◌∷◌, count_by, is_some}
-use Rattle.ak_labor.specs.declared.work.Outcome.{Outcome}
+use Rattle.ak_labor.specs.Arrived.{Arrived}
 use Rattle.ak_labor.specs.Waits.{outstanding}
 use Rattle.ak_history.specs.declared.event.Event.{Event}
 use Rattle.ak_history.specs.declared.event.Event.TheVariants as event
@@ -16,7 +16,7 @@ use Rattle.ak_hub.specs.Hubs.{HubState, Gave, seen_by}
 
 -- some work is outstanding: it was handed in, and no drain has brought it
 abbrev pub SomeOutstanding : List Event → Type 0
-SomeOutstanding history = outstanding (asks history) (replies history) ≢ []
+SomeOutstanding history = outstanding (asks history) (replies 0 history) ≢ []
 
 -- in one hold the pass gave this event
 abbrev pub Gives : HubState → PassView Event → Event → PassView Event → Type 0
@@ -26,12 +26,12 @@ Gives h p e q = (was : List (ℕ × Event)) × Gave h p was (e ∷ []) q
 abbrev pub GivesNothing : HubState → PassView Event → PassView Event → Type 0
 GivesNothing h p q = (was : List (ℕ × Event)) × Gave h p was [] q
 
--- in one hold the pass fetched the finished works that were not fetched
-abbrev pub Fetches : HubState → PassView Event → List (ℕ × Outcome) → PassView Event → Type 0
+-- in one hold the pass fetched the finished works that were not fetched, and no request, since no one asks
+abbrev pub Fetches : HubState → PassView Event → Arrived → PassView Event → Type 0
 Fetches h p into q =
     (was : List (ℕ × Event))
-    × Gave h p was (event.Drain (owed (events was)) ∷ []) q
-    × (into ≡ owed_pairs (events was))
+    × Gave h p was (event.Drain (owed (events was)) [] ∷ []) q
+    × (into ≡ record { works = owed_pairs (events was); requests = []; left = 0 })
 
 -- in one hold the pass asked for a helper, and was answered by the history that the hold began with
 abbrev pub AsksHelper : HubState → PassView Event → Bool → PassView Event → Type 0

@@ -2,11 +2,11 @@
 use Rattle.std.specs.Prelude.{ℕ, Bool, List, [], ◌∷◌, ◌++◌, count_by, is_some}
 use Rattle.ak_history.specs.declared.event.Event.{Event}
 use Rattle.ak_history.specs.declared.event.Event.TheVariants as event
-use Rattle.ak_history.specs.Events.{is_helper_new, helper_answer, owed}
+use Rattle.ak_history.specs.Events.{is_helper_new, helper_answer, owed, unfetched}
 
--- with a drain of what is owed
+-- with a drain of what is owed and of the requests that were not fetched
 abbrev pub with_drain : List Event → List Event
-with_drain history = history ++ event.Drain (owed history) ∷ []
+with_drain history = history ++ event.Drain (owed history) (unfetched history) ∷ []
 
 -- with the next helper, and its answer
 abbrev pub with_helper : ℕ → List Event → List Event

@@ -1,5 +1,6 @@
 -- The value of a work. Own.
 use Rattle.std.specs.Prelude.{ℕ, ℤ, pos, negsuc, zero, suc, ◌+◌, ◌*◌, ◌/◌, ◌%◌, ◌^◌, ◌*ℤ◌, nat_le, nat_lt, Bool, if◌then◌else◌}
+use Rattle.ak_base.specs.Numbers.{fits}
 use Rattle.ak_labor.specs.declared.work.WorkKind.{WorkKind}
 use Rattle.ak_labor.specs.declared.work.WorkKind.TheVariants.{Square, Mix, Fail}
 use Rattle.ak_labor.specs.declared.work.Work.{Work}
@@ -10,11 +11,6 @@ use Rattle.ak_labor.specs.declared.work.Outcome.TheVariants.{Good, Bad}
 abbrev pub out_of_range : ℤ
 out_of_range = negsuc 7
 
--- whether a number has 64 bits with its sign
-abbrev pub is_num : ℤ → Bool
-is_num (pos n) = nat_lt n (2 ^ 63)
-is_num (negsuc n) = nat_lt n (2 ^ 63)
-
 -- so many steps of a generator of 64 bits
 abbrev pub mixed : ℕ → ℕ → ℕ
 mixed zero s = s
@@ -22,7 +18,7 @@ mixed (suc steps) s = mixed steps ((s * 6364136223846793005 + 144269504088896340
 
 -- the square, or an error where it has more than 64 bits
 abbrev pub square_of : ℤ → Outcome
-square_of z = if is_num (z *ℤ z) then Good (z *ℤ z) else Bad out_of_range
+square_of z = if fits (z *ℤ z) then Good (z *ℤ z) else Bad out_of_range
 
 -- the upper half of n after n steps, for n up to a million, or else an error
 abbrev pub mix_of : ℤ → Outcome

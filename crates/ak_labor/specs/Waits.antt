@@ -1,11 +1,12 @@
--- Which works are out, by the calls and the replies alone, and when a wait makes sense. Own.
-use Rattle.std.specs.Prelude.{ℕ, ◌<◌, List, [], ◌∷◌, ◌++◌, ◌≡◌, ◌≢◌, length, drop, filter, fold, Bool, true, false, not, ◌==◌, Option, Some, None, is_some, ◌⊎◌, Contains}
-use Rattle.std.specs.List.{list_any, filter_map, flat_map, zip}
+-- Which works are out and which requests wait, by the calls and the replies alone, and when a wait makes sense. Own.
+use Rattle.std.specs.Prelude.{ℕ, ℤ, ◌<◌, ◌≤◌, List, [], ◌∷◌, ◌++◌, ◌≡◌, ◌≢◌, length, map, drop, filter, fold, Bool, true, false, not, ◌==◌, Option, Some, None, is_some, ◌⊎◌, Contains}
+use Rattle.std.specs.List.{list_any, filter_map, flat_map, zip, range_with_len}
 use Rattle.ak_labor.specs.declared.work.Work.{Work}
 use Rattle.ak_labor.specs.declared.work.Outcome.{Outcome}
 use Rattle.ak_labor.specs.declared.ask.Ask.{Ask}
 use Rattle.ak_labor.specs.declared.ask.Ask.TheVariants as ask
-use Rattle.ak_labor.specs.Calls.{Reply, Pairs, Granted, Done}
+use Rattle.ak_labor.specs.Arrived.{Arrived}
+use Rattle.ak_labor.specs.Calls.{Reply, Drained, Granted, Done}
 use Rattle.ak_labor.specs.Value.{value_of}
 
 -- a work that was handed in, under its number, perhaps for a helper
@@ -19,10 +20,11 @@ handed_by (ask.Submit id work helper) = Some (record { id = id; work = work; hel
 handed_by ask.Drain = None
 handed_by (ask.HelperNew h) = None
 handed_by (ask.HelperEnd h) = None
+handed_by (ask.Answer q v) = None
 handed_by ask.Close = None
 
 abbrev pub pairs_in : Reply → List (ℕ × Outcome)
-pairs_in (Pairs pairs) = pairs
+pairs_in (Drained arrived) = arrived.works
 pairs_in (Granted granted) = []
 pairs_in Done = []
 
@@ -77,22 +79,89 @@ helper_in (ask.Submit id work helper) = None
 helper_in ask.Drain = None
 helper_in (ask.HelperNew h) = Some h
 helper_in (ask.HelperEnd h) = None
+helper_in (ask.Answer q v) = None
 helper_in ask.Close = None
 
 abbrev pub is_for_helper : Handed → Bool
 is_for_helper handed = is_some handed.helper
 
+abbrev pub requests_in : Reply → List (ℕ × ℤ)
+requests_in (Drained arrived) = arrived.requests
+requests_in (Granted granted) = []
+requests_in Done = []
+
+-- the requests that replies have brought, with their numbers, oldest first
+abbrev pub came : List Reply → List (ℕ × ℤ)
+came replies = flat_map requests_in replies
+
+abbrev pub answered_by : Ask → Option ℕ
+answered_by (ask.Submit id work helper) = None
+answered_by ask.Drain = None
+answered_by (ask.HelperNew h) = None
+answered_by (ask.HelperEnd h) = None
+answered_by (ask.Answer q v) = Some q
+answered_by ask.Close = None
+
+-- whether no call has answered the request
+abbrev pub is_unanswered : List Ask → ℕ × ℤ → Bool
+is_unanswered asked request = not (list_any (λ q. q == request.0) (filter_map answered_by asked))
+
+-- the requests that replies have brought and no call has answered
+abbrev pub unanswered : List Ask → List Reply → List (ℕ × ℤ)
+unanswered asked replies = filter (is_unanswered asked) (came replies)
+
+-- how many askers are left after one more reply: what the last drain says
+abbrev pub left_by : ℕ → Reply → ℕ
+left_by left (Drained arrived) = arrived.left
+left_by left (Granted granted) = left
+left_by left Done = left
+
+-- how many of so many askers are left after the replies
+abbrev pub left_after : ℕ → List Reply → ℕ
+left_after askers replies = fold left_by askers replies
+
+-- what a drain brings from outside: its requests are numbered on, askers only end, and each asker that is left has at most one
+-- request without an answer
+pub record Serves (askers : ℕ) (asked : List Ask) (replies : List Reply) (arrived : Arrived) : Type 0 where
+  pub numbered : map (λ request. request.0) arrived.requests ≡ range_with_len (length (came replies)) (length arrived.requests)
+  pub fewer : arrived.left ≤ left_after askers replies
+  pub one_each : length (unanswered asked (replies ++ Drained arrived ∷ [])) ≤ arrived.left
+
+-- something has come: a work, or a request, or the end of an asker
+abbrev pub HasCome : ℕ → List Reply → Arrived → Type 0
+HasCome askers replies arrived =
+    (arrived.works ≢ []) ⊎ (arrived.requests ≢ []) ⊎ (arrived.left < left_after askers replies)
+
+-- a request that a reply has brought and no call has answered
+abbrev pub IsAnswerable : List Ask → List Reply → ℕ → Type 0
+IsAnswerable asked replies q = Contains (map (λ request. request.0) (unanswered asked replies)) q
+
 -- some work is out, and a thread can do one that is: it is a helper's, or not every thread is a helper's
-abbrev pub CanWait : ℕ → List Ask → List Reply → Type 0
-CanWait threads asked replies =
+abbrev pub CanWork : ℕ → List Ask → List Reply → Type 0
+CanWork threads asked replies =
     (outstanding asked replies ≢ [])
     × ((list_any is_for_helper (outstanding asked replies) ≡ true) ⊎ (length (active_helpers asked replies) < threads))
+
+-- some asker that is left has no request without an answer
+abbrev pub CanAsk : ℕ → List Ask → List Reply → Type 0
+CanAsk askers asked replies = length (unanswered asked replies) < left_after askers replies
+
+-- something may come: a work or a request
+abbrev pub CanWait : ℕ → ℕ → List Ask → List Reply → Type 0
+CanWait threads askers asked replies = CanWork threads asked replies ⊎ CanAsk askers asked replies
+
+-- a drain was replied
+abbrev pub is_drained : Reply → Bool
+is_drained (Drained arrived) = true
+is_drained (Granted granted) = false
+is_drained Done = false
 
 abbrev pub is_drain : Ask → Bool
 is_drain (ask.Submit id work helper) = false
 is_drain ask.Drain = true
 is_drain (ask.HelperNew h) = false
 is_drain (ask.HelperEnd h) = false
+is_drain (ask.Answer q v) = false
 is_drain ask.Close = false
 
 -- the place in the list of calls at which the scheduler waited last

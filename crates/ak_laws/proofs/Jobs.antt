@@ -1,5 +1,6 @@
 -- A trace whose jobs are in order obeys both laws of jobs: numbers and order, priorities and limits.
-use Rattle.std.proofs.Common.{ℕ, ◌+◌, ◌<◌, ◌≤◌, ◌⊎◌, ◌≡◌, List, [], ◌∷◌, ◌++◌, length, take, Bool, true, false, ◌||◌, ◌&&◌, ◌==◌, Option, Some, None, refl, sym, subst, ◌∙◌, ap, cond, inl, inr, arith, append_assoc, length-append}
+use Rattle.std.proofs.Common.{ℕ, ◌+◌, ◌<◌, ◌≤◌, ◌⊎◌, ◌≡◌, List, [], ◌∷◌, ◌++◌, length, take, Bool, true, false, ◌||◌, ◌&&◌, ◌==◌, Option, Some, None}
+use Rattle.std.proofs.Common.{refl, sym, subst, ◌∙◌, ap, cond, inl, inr, arith, append_assoc, length-append}
 use Rattle.std.specs.Prelude.{filter, fold}
 use Rattle.std.specs.List.{AllByRecursion, list_all, filter_map, cons_option}
 use Rattle.std.proofs.lemmas.List.{append-nil}
@@ -7,28 +8,14 @@ use Rattle.std.proofs.lemmas.List.Elements.{filter-append, filter_map-append}
 use Rattle.std.proofs.lemmas.Bool.{cases_lt}
 use Rattle.ak_trace.specs.declared.entry.Entry.{Entry}
 use Rattle.ak_trace.specs.declared.entry.Entry.TheVariants as entry
+use Rattle.ak_holders.proofs.Carry.{all_append, all_by, all_filter}
 use Rattle.ak_laws.specs.Places.{EachAfter}
 use Rattle.ak_laws.specs.Order.{Waiting, nothing_waits, with_waiting, new_cycle, RunsNormal, RunsLow, Follows, Leads, IsInOrder}
-use Rattle.ak_laws.specs.Jobs.{is_among, enqueued_by, normal_by, low_by, run_by, enqueued, normal, low, ran, IsFront, IsNumbered, JobsInOrder, cycles_from, in_cycle, this_cycle, IsWithin, Yields, LowYields, CyclesAreLimited}
+use Rattle.ak_laws.specs.Jobs.{is_among, enqueued_by, normal_by, low_by, run_by, enqueued, normal, low, ran, IsFront, IsNumbered, JobsInOrder}
+use Rattle.ak_laws.specs.Jobs.{cycles_from, in_cycle, this_cycle, IsWithin, Yields, LowYields, CyclesAreLimited}
 
 -- ---- lists of numbers
-all_append : (P : ℕ → Type 0) (xs ys : List ℕ) → AllByRecursion P xs → AllByRecursion P ys → AllByRecursion P (xs ++ ys)
-all_append P [] ys h k = k
-all_append P (x ∷ xs) ys h k = (h.0, all_append P xs ys h.1 k)
-
-all_weaker : {A : Type 0} (P Q : A → Type 0) → ((m : A) → P m → Q m) → (xs : List A) → AllByRecursion P xs → AllByRecursion Q xs
-all_weaker P Q f [] h = tt
-all_weaker P Q f (x ∷ xs) h = (f x h.0, all_weaker P Q f xs h.1)
-
-all_filter : (P : ℕ → Type 0) (p : ℕ → Bool) (xs : List ℕ) → AllByRecursion P xs → AllByRecursion P (filter p xs)
-all_filter P p [] h = tt
-all_filter P p (x ∷ xs) h = by (p x) (all_filter P p xs h.1)
-  where
-    by : (b : Bool) → AllByRecursion P (filter p xs) → AllByRecursion P (cond b (x ∷ filter p xs) (filter p xs))
-    by true rest = (h.0, rest)
-    by false rest = rest
-
-filter_same : (p q : ℕ → Bool) (xs : List ℕ) → AllByRecursion (λ m. p m ≡ q m) xs → filter p xs ≡ filter q xs
+pub filter_same : (p q : ℕ → Bool) (xs : List ℕ) → AllByRecursion (λ m. p m ≡ q m) xs → filter p xs ≡ filter q xs
 filter_same p q [] h = refl
 filter_same p q (x ∷ xs) h =
     subst (λ b. filter p (x ∷ xs) ≡ cond b (x ∷ filter q xs) (filter q xs)) h.0
@@ -48,7 +35,7 @@ front xs ys zs e = subst (IsFront xs) e (taken xs)
     taken (x ∷ xs) = ap (λ (rest : List ℕ). x ∷ rest) (taken xs)
 
 -- ---- numbers among others
-less_other : (x n : ℕ) → x < n → (x == n) ≡ false
+pub less_other : (x n : ℕ) → x < n → (x == n) ≡ false
 less_other x n h = grind (arith, h)
 
 more_other : (x n : ℕ) → n < x → (x == n) ≡ false
@@ -58,7 +45,7 @@ or_false : (b : Bool) → (b || false) ≡ b
 or_false true = refl
 or_false false = refl
 
-among_append : (xs ys : List ℕ) (n : ℕ) → is_among (xs ++ ys) n ≡ (is_among xs n || is_among ys n)
+pub among_append : (xs ys : List ℕ) (n : ℕ) → is_among (xs ++ ys) n ≡ (is_among xs n || is_among ys n)
 among_append [] ys n = refl
 among_append (x ∷ xs) ys n = by (x == n) (among_append xs ys n)
   where
@@ -66,7 +53,7 @@ among_append (x ∷ xs) ys n = by (x == n) (among_append xs ys n)
     by true h = refl
     by false h = h
 
-among_here : (xs ys : List ℕ) (n : ℕ) → is_among (xs ++ n ∷ ys) n ≡ true
+pub among_here : (xs ys : List ℕ) (n : ℕ) → is_among (xs ++ n ∷ ys) n ≡ true
 among_here [] ys n = let same : (n == n) ≡ true = grind arith in ap (λ b. b || is_among ys n) same
 among_here (x ∷ xs) ys n = by (x == n) (among_here xs ys n)
   where
@@ -74,11 +61,11 @@ among_here (x ∷ xs) ys n = by (x == n) (among_here xs ys n)
     by true h = refl
     by false h = h
 
-among_less : (n : ℕ) (xs : List ℕ) → AllByRecursion (λ m. m < n) xs → is_among xs n ≡ false
+pub among_less : (n : ℕ) (xs : List ℕ) → AllByRecursion (λ m. m < n) xs → is_among xs n ≡ false
 among_less n [] h = refl
 among_less n (x ∷ xs) h = ap (λ b. b || is_among xs n) (less_other x n h.0) ∙ among_less n xs h.1
 
-among_more : (n : ℕ) (xs : List ℕ) → AllByRecursion (λ m. n < m) xs → is_among xs n ≡ false
+pub among_more : (n : ℕ) (xs : List ℕ) → AllByRecursion (λ m. n < m) xs → is_among xs n ≡ false
 among_more n [] h = refl
 among_more n (x ∷ xs) h = ap (λ b. b || is_among xs n) (more_other x n h.0) ∙ among_more n xs h.1
 
@@ -95,31 +82,31 @@ all_kept p before (x ∷ xs) =
 
 -- ---- what is known between two entries
 -- a job of this number was enqueued before the next, at normal priority: N tells the normal ones, and L the low ones
-abbrev IsNormal : (ℕ → Bool) → (ℕ → Bool) → ℕ → ℕ → Type 0
+abbrev pub IsNormal : (ℕ → Bool) → (ℕ → Bool) → ℕ → ℕ → Type 0
 IsNormal N L next m = (m < next) × (N m ≡ true) × (L m ≡ false)
 
 -- by the jobs that were enqueued, the normal and the low ones of them, those that ran and those that ran in this cycle
-record Numbers (N L : ℕ → Bool) (limit : ℕ) (all normals lows runs now : List ℕ) (w : Waiting) : Type 0 where
-  count : length all ≡ w.next
-  has : (m : ℕ) → m < w.next → is_among all m ≡ true
-  normal_agrees : (m : ℕ) → m < w.next → is_among normals m ≡ N m
-  low_agrees : (m : ℕ) → m < w.next → is_among lows m ≡ L m
-  ran_below : AllByRecursion (λ m. m < w.next) runs
-  now_below : AllByRecursion (λ m. m < w.next) now
-  normal_is : filter N runs ++ w.normal ≡ normals
-  low_is : filter L runs ++ w.low ≡ lows
-  normal_waits : AllByRecursion (IsNormal N L w.next) w.normal
-  low_waits : AllByRecursion (IsNormal L N w.next) w.low
-  normal_now : length (filter N now) ≡ w.normal_ran
-  low_now : length (filter L now) ≡ w.low_ran
-  normal_few : w.normal_ran ≤ limit
-  low_few : w.low_ran ≤ limit
+pub record Numbers (N L : ℕ → Bool) (limit : ℕ) (all normals lows runs now : List ℕ) (w : Waiting) : Type 0 where
+  pub count : length all ≡ w.next
+  pub has : (m : ℕ) → m < w.next → is_among all m ≡ true
+  pub normal_agrees : (m : ℕ) → m < w.next → is_among normals m ≡ N m
+  pub low_agrees : (m : ℕ) → m < w.next → is_among lows m ≡ L m
+  pub ran_below : AllByRecursion (λ m. m < w.next) runs
+  pub now_below : AllByRecursion (λ m. m < w.next) now
+  pub normal_is : filter N runs ++ w.normal ≡ normals
+  pub low_is : filter L runs ++ w.low ≡ lows
+  pub normal_waits : AllByRecursion (IsNormal N L w.next) w.normal
+  pub low_waits : AllByRecursion (IsNormal L N w.next) w.low
+  pub normal_now : length (filter N now) ≡ w.normal_ran
+  pub low_now : length (filter L now) ≡ w.low_ran
+  pub normal_few : w.normal_ran ≤ limit
+  pub low_few : w.low_ran ≤ limit
 
 -- the priorities exchanged
-abbrev turned : Waiting → Waiting
+abbrev pub turned : Waiting → Waiting
 turned w = record { normal = w.low; low = w.normal; normal_ran = w.low_ran; low_ran = w.normal_ran; next = w.next }
 
-turn : (N L : ℕ → Bool) (limit : ℕ) (all normals lows runs now : List ℕ) (w : Waiting) → Numbers N L limit all normals lows runs now w
+pub turn : (N L : ℕ → Bool) (limit : ℕ) (all normals lows runs now : List ℕ) (w : Waiting) → Numbers N L limit all normals lows runs now w
     → Numbers L N limit all lows normals runs now (turned w)
 turn N L limit all normals lows runs now w k =
     record {
@@ -145,7 +132,7 @@ lows_below : (N L : ℕ → Bool) (limit : ℕ) (all normals lows runs now : Lis
 lows_below N L limit all normals lows runs now w k =
     subst (AllByRecursion (λ m. m < w.next)) k.low_is
     (all_append (λ m. m < w.next) (filter L runs) w.low (all_filter (λ m. m < w.next) L runs k.ran_below)
-    (all_weaker (IsNormal L N w.next) (λ m. m < w.next) (λ m h. h.0) w.low k.low_waits))
+    (all_by (IsNormal L N w.next) (λ m. m < w.next) (λ m h. h.0) w.low k.low_waits))
 
 enqueue_normal : (N L : ℕ → Bool) (limit : ℕ) (all normals lows runs now : List ℕ) (w : Waiting) → N w.next ≡ true → L w.next ≡ false
     → Numbers N L limit all normals lows runs now w
@@ -156,15 +143,15 @@ enqueue_normal N L limit all normals lows runs now w is_n is_l k =
       has = has;
       normal_agrees = normal_agrees;
       low_agrees = low_agrees;
-      ran_below = all_weaker (λ m. m < w.next) (λ m. m < w.next + 1) (λ m h. omega (arith, h)) runs k.ran_below;
-      now_below = all_weaker (λ m. m < w.next) (λ m. m < w.next + 1) (λ m h. omega (arith, h)) now k.now_below;
+      ran_below = all_by (λ m. m < w.next) (λ m. m < w.next + 1) (λ m h. omega (arith, h)) runs k.ran_below;
+      now_below = all_by (λ m. m < w.next) (λ m. m < w.next + 1) (λ m h. omega (arith, h)) now k.now_below;
       normal_is = sym (append_assoc (filter N runs) w.normal (w.next ∷ [])) ∙ ap (λ (xs : List ℕ). xs ++ w.next ∷ []) k.normal_is;
       low_is = k.low_is;
       normal_waits =
           all_append (IsNormal N L (w.next + 1)) w.normal (w.next ∷ [])
-          (all_weaker (IsNormal N L w.next) (IsNormal N L (w.next + 1)) (λ m h. (omega (arith, h.0), h.1, h.2)) w.normal k.normal_waits)
+          (all_by (IsNormal N L w.next) (IsNormal N L (w.next + 1)) (λ m h. (omega (arith, h.0), h.1, h.2)) w.normal k.normal_waits)
           ((omega arith, is_n, is_l), tt);
-      low_waits = all_weaker (IsNormal L N w.next) (IsNormal L N (w.next + 1)) (λ m h. (omega (arith, h.0), h.1, h.2)) w.low k.low_waits;
+      low_waits = all_by (IsNormal L N w.next) (IsNormal L N (w.next + 1)) (λ m h. (omega (arith, h.0), h.1, h.2)) w.low k.low_waits;
       normal_now = k.normal_now;
       low_now = k.low_now;
       normal_few = k.normal_few;
@@ -199,7 +186,7 @@ enqueue_low N L limit all normals lows runs now w is_l is_n k =
     turn L N limit (all ++ w.next ∷ []) (lows ++ w.next ∷ []) normals runs now (with_waiting false w.next (turned w))
     (enqueue_normal L N limit all lows normals runs now (turned w) is_l is_n (turn N L limit all normals lows runs now w k))
 
-run_normal : (N L : ℕ → Bool) (limit : ℕ) (all normals lows runs now : List ℕ) (w v : Waiting) (n : ℕ) → RunsNormal limit n w v
+pub run_normal : (N L : ℕ → Bool) (limit : ℕ) (all normals lows runs now : List ℕ) (w v : Waiting) (n : ℕ) → RunsNormal limit n w v
     → Numbers N L limit all normals lows runs now w
     → Numbers N L limit all normals lows (runs ++ n ∷ []) (now ++ n ∷ []) v
 run_normal N L limit all normals lows runs now w v n r k =
@@ -225,7 +212,7 @@ run_normal N L limit all normals lows runs now w v n r k =
     })
 
 -- a low job is a normal one where the priorities are exchanged
-run_low : (N L : ℕ → Bool) (limit : ℕ) (all normals lows runs now : List ℕ) (w v : Waiting) (n : ℕ) → RunsLow limit n w v
+pub run_low : (N L : ℕ → Bool) (limit : ℕ) (all normals lows runs now : List ℕ) (w v : Waiting) (n : ℕ) → RunsLow limit n w v
     → Numbers N L limit all normals lows runs now w
     → Numbers N L limit all normals lows (runs ++ n ∷ []) (now ++ n ∷ []) v
 run_low N L limit all normals lows runs now w v n r k =
@@ -255,48 +242,36 @@ cycle_again N L limit all normals lows runs now w k =
 
 -- ---- entries
 -- N and L tell the priority of what an entry enqueues
-abbrev IsTold : (ℕ → Bool) → (ℕ → Bool) → Entry → Type 0
+abbrev pub IsTold : (ℕ → Bool) → (ℕ → Bool) → Entry → Type 0
 IsTold N L (entry.Enq n false) = (N n ≡ true) × (L n ≡ false)
 IsTold N L (entry.Enq n true) = (L n ≡ true) × (N n ≡ false)
 IsTold N L e = Unit {0}
 
 -- an entry that enqueues nothing, runs nothing and begins no cycle
-abbrev Plain : Entry → Type 0
+abbrev pub Plain : Entry → Type 0
 Plain e =
     (enqueued_by e ≡ None) × (normal_by e ≡ None) × (low_by e ≡ None) × (run_by e ≡ None)
     × ((before after : List Entry) → IsNumbered before e after) × ((limit : ℕ) (before after : List Entry) → LowYields limit before e after)
     × ((now : List Entry) → in_cycle now e ≡ now ++ e ∷ []) × ((now after : List Entry) → cycles_from now (e ∷ after) ≡ cycles_from (now ++ e ∷ []) after)
     × ((limit : ℕ) (w u : Waiting) → Follows limit e w u → u ≡ w) × ((N L : ℕ → Bool) → IsTold N L e)
+    × ((limit : ℕ) (w : Waiting) → Follows limit e w w)
 
-data Role (e : Entry) : Type 0 where
+pub data Role (e : Entry) : Type 0 where
   is_plain : Plain e → Role e
   is_enqueue : (n : ℕ) (low : Bool) → e ≡ entry.Enq n low → Role e
   is_run : (n : ℕ) → e ≡ entry.Job n → Role e
   is_new : e ≡ entry.Cycle → Role e
 
-role : (e : Entry) → Role e
-role (entry.Enq n low) = is_enqueue n low refl
+pub role : (e : Entry) → Role e
+role (entry.Enq n is_low) = is_enqueue n is_low refl
 role (entry.Job n) = is_run n refl
 role entry.Cycle = is_new refl
-role (entry.Fill i z) = is_plain (refl, refl, refl, refl, λ b a. tt, λ l b a. tt, λ now. refl, λ now a. refl, λ l w u f. f, λ N L. tt)
-role (entry.Join r i) = is_plain (refl, refl, refl, refl, λ b a. tt, λ l b a. tt, λ now. refl, λ now a. refl, λ l w u f. f, λ N L. tt)
-role (entry.Print z) = is_plain (refl, refl, refl, refl, λ b a. tt, λ l b a. tt, λ now. refl, λ now a. refl, λ l w u f. f, λ N L. tt)
-role (entry.Monitor m p) = is_plain (refl, refl, refl, refl, λ b a. tt, λ l b a. tt, λ now. refl, λ now a. refl, λ l w u f. f, λ N L. tt)
-role (entry.Detach m) = is_plain (refl, refl, refl, refl, λ b a. tt, λ l b a. tt, λ now. refl, λ now a. refl, λ l w u f. f, λ N L. tt)
-role (entry.Attach m) = is_plain (refl, refl, refl, refl, λ b a. tt, λ l b a. tt, λ now. refl, λ now a. refl, λ l w u f. f, λ N L. tt)
-role (entry.Error x m) = is_plain (refl, refl, refl, refl, λ b a. tt, λ l b a. tt, λ now. refl, λ now a. refl, λ l w u f. f, λ N L. tt)
-role (entry.Caught m) = is_plain (refl, refl, refl, refl, λ b a. tt, λ l b a. tt, λ now. refl, λ now a. refl, λ l w u f. f, λ N L. tt)
-role (entry.Rest x) = is_plain (refl, refl, refl, refl, λ b a. tt, λ l b a. tt, λ now. refl, λ now a. refl, λ l w u f. f, λ N L. tt)
-role (entry.Unhandled x) = is_plain (refl, refl, refl, refl, λ b a. tt, λ l b a. tt, λ now. refl, λ now a. refl, λ l w u f. f, λ N L. tt)
-role (entry.Submit id kind z) = is_plain (refl, refl, refl, refl, λ b a. tt, λ l b a. tt, λ now. refl, λ now a. refl, λ l w u f. f, λ N L. tt)
-role (entry.Helper h granted) = is_plain (refl, refl, refl, refl, λ b a. tt, λ l b a. tt, λ now. refl, λ now a. refl, λ l w u f. f, λ N L. tt)
-role (entry.Arrive id outcome) = is_plain (refl, refl, refl, refl, λ b a. tt, λ l b a. tt, λ now. refl, λ now a. refl, λ l w u f. f, λ N L. tt)
-role (entry.End why) = is_plain (refl, refl, refl, refl, λ b a. tt, λ l b a. tt, λ now. refl, λ now a. refl, λ l w u f. f, λ N L. tt)
+role e = is_plain (refl, refl, refl, refl, λ b a. tt, λ l b a. tt, λ now. refl, λ now a. refl, λ l w u f. f, λ N L. tt, λ l w. refl)
 
-none_more : (f : Entry → Option ℕ) (es : List Entry) (e : Entry) → f e ≡ None → filter_map f (es ++ e ∷ []) ≡ filter_map f es
+pub none_more : (f : Entry → Option ℕ) (es : List Entry) (e : Entry) → f e ≡ None → filter_map f (es ++ e ∷ []) ≡ filter_map f es
 none_more f es e h = filter_map-append f es (e ∷ []) ∙ ap (λ (o : Option ℕ). filter_map f es ++ cons_option o []) h ∙ append-nil (filter_map f es)
 
-some_more : (f : Entry → Option ℕ) (es : List Entry) (e : Entry) (n : ℕ) → f e ≡ Some n → filter_map f (es ++ e ∷ []) ≡ filter_map f es ++ n ∷ []
+pub some_more : (f : Entry → Option ℕ) (es : List Entry) (e : Entry) (n : ℕ) → f e ≡ Some n → filter_map f (es ++ e ∷ []) ≡ filter_map f es ++ n ∷ []
 some_more f es e n h = filter_map-append f es (e ∷ []) ∙ ap (λ (o : Option ℕ). filter_map f es ++ cons_option o []) h
 
 cycle_more : (es now : List Entry) (e : Entry) → this_cycle es ≡ now → this_cycle (es ++ e ∷ []) ≡ in_cycle now e
@@ -306,20 +281,20 @@ cycle_more es now e h = by es [] ∙ ap (λ (xs : List Entry). in_cycle xs e) h
     by [] at = refl
     by (x ∷ xs) at = by xs (in_cycle at x)
 
-record Known (N L : ℕ → Bool) (limit : ℕ) (before now : List Entry) (w : Waiting) : Type 0 where
-  numbers : Numbers N L limit (enqueued before) (normal before) (low before) (ran before) (ran now) w
-  this : this_cycle before ≡ now
+pub record Known (N L : ℕ → Bool) (limit : ℕ) (before now : List Entry) (w : Waiting) : Type 0 where
+  pub numbers : Numbers N L limit (enqueued before) (normal before) (low before) (ran before) (ran now) w
+  pub this : this_cycle before ≡ now
 
-abbrev Few : (ℕ → Bool) → (ℕ → Bool) → ℕ → List Entry → Type 0
+abbrev pub Few : (ℕ → Bool) → (ℕ → Bool) → ℕ → List Entry → Type 0
 Few N L limit es = (length (filter N (ran es)) ≤ limit) × (length (filter L (ran es)) ≤ limit)
 
 -- the laws of the entries that are left, by those before
-record Lawful (N L : ℕ → Bool) (limit : ℕ) (before now es : List Entry) : Type 0 where
-  numbered : EachAfter IsNumbered before es
-  yields : EachAfter (LowYields limit) before es
-  within : AllByRecursion (Few N L limit) (cycles_from now es)
-  normals : IsFront (filter N (ran (before ++ es))) (normal (before ++ es))
-  lows : IsFront (filter L (ran (before ++ es))) (low (before ++ es))
+pub record Lawful (N L : ℕ → Bool) (limit : ℕ) (before now es : List Entry) : Type 0 where
+  pub numbered : EachAfter IsNumbered before es
+  pub yields : EachAfter (LowYields limit) before es
+  pub within : AllByRecursion (Few N L limit) (cycles_from now es)
+  pub normals : IsFront (filter N (ran (before ++ es))) (normal (before ++ es))
+  pub lows : IsFront (filter L (ran (before ++ es))) (low (before ++ es))
 
 -- the laws of one more entry
 added : (N L : ℕ → Bool) (limit : ℕ) (before now next : List Entry) (e : Entry) (es : List Entry) → IsNumbered before e es → LowYields limit before e es
@@ -344,7 +319,7 @@ yields_so N L limit before now w true k (inl none) =
     in inl (subst (λ (xs : List ℕ). list_all (is_among (ran before)) xs ≡ true) whole (all_kept N [] (ran before)))
 yields_so N L limit before now w true k (inr full) =
     let agree : AllByRecursion (λ m. is_among (normal before) m ≡ N m) (ran now) =
-    all_weaker (λ m. m < w.next) (λ m. is_among (normal before) m ≡ N m) k.numbers.normal_agrees (ran now) k.numbers.now_below
+    all_by (λ m. m < w.next) (λ m. is_among (normal before) m ≡ N m) k.numbers.normal_agrees (ran now) k.numbers.now_below
     in let same : length (filter (is_among (normal before)) (ran now)) ≡ w.normal_ran =
     ap length (filter_same (is_among (normal before)) N (ran now) agree) ∙ k.numbers.normal_now
     in let all : w.normal_ran ≡ limit = omega (arith, full, k.numbers.normal_few)
@@ -358,7 +333,7 @@ yields_normal L limit n before agrees other = subst (λ b. Yields limit b before
 abbrev Continues : (ℕ → Bool) → (ℕ → Bool) → ℕ → List Entry → Type 0
 Continues N L limit es = (before now : List Entry) (w v : Waiting) → Known N L limit before now w → Leads limit es w v → Lawful N L limit before now es
 
-plain_known : (N L : ℕ → Bool) (limit : ℕ) (before now : List Entry) (e : Entry) (w : Waiting) → Plain e → Known N L limit before now w
+pub plain_known : (N L : ℕ → Bool) (limit : ℕ) (before now : List Entry) (e : Entry) (w : Waiting) → Plain e → Known N L limit before now w
     → Known N L limit (before ++ e ∷ []) (now ++ e ∷ []) w
 plain_known N L limit before now e w p k =
     record {
@@ -372,7 +347,7 @@ plain_known N L limit before now e w p k =
       this = cycle_more before now e k.this ∙ p.6 now;
     }
 
-enqueue_known : (N L : ℕ → Bool) (limit : ℕ) (before now : List Entry) (low : Bool) (w : Waiting) → IsTold N L (entry.Enq w.next low)
+pub enqueue_known : (N L : ℕ → Bool) (limit : ℕ) (before now : List Entry) (low : Bool) (w : Waiting) → IsTold N L (entry.Enq w.next low)
     → Known N L limit before now w
     → Known N L limit (before ++ entry.Enq w.next low ∷ []) (now ++ entry.Enq w.next low ∷ []) (with_waiting low w.next w)
 enqueue_known N L limit before now false w told k =
@@ -399,7 +374,7 @@ enqueue_known N L limit before now true w told k =
       this = cycle_more before now (entry.Enq w.next true) k.this;
     }
 
-run_known : (N L : ℕ → Bool) (limit : ℕ) (before now : List Entry) (n : ℕ) (w v : Waiting) → Known N L limit before now w
+pub run_known : (N L : ℕ → Bool) (limit : ℕ) (before now : List Entry) (n : ℕ) (w v : Waiting) → Known N L limit before now w
     → Numbers N L limit (enqueued before) (normal before) (low before) (ran before ++ n ∷ []) (ran now ++ n ∷ []) v
     → Known N L limit (before ++ entry.Job n ∷ []) (now ++ entry.Job n ∷ []) v
 run_known N L limit before now n w v k h =
@@ -414,7 +389,7 @@ run_known N L limit before now n w v k h =
       this = cycle_more before now (entry.Job n) k.this;
     }
 
-cycle_known : (N L : ℕ → Bool) (limit : ℕ) (before now : List Entry) (w : Waiting) → Known N L limit before now w
+pub cycle_known : (N L : ℕ → Bool) (limit : ℕ) (before now : List Entry) (w : Waiting) → Known N L limit before now w
     → Known N L limit (before ++ entry.Cycle ∷ []) [] (new_cycle w)
 cycle_known N L limit before now w k =
     record {
@@ -517,7 +492,7 @@ later_one limit e es w u (is_enqueue n is_low eq) f h =
     next_is false f = ap (λ (x : Waiting). x.next) f.1
 
     less : (b : Bool) → Follows limit (entry.Enq n b) w u → (xs : List ℕ) → AllByRecursion (λ m. u.next ≤ m) xs → AllByRecursion (λ m. w.next ≤ m) xs
-    less b f xs k = all_weaker (λ m. u.next ≤ m) (λ m. w.next ≤ m) (λ m l. omega (arith, l, next_is b f)) xs k
+    less b f xs k = all_by (λ m. u.next ≤ m) (λ m. w.next ≤ m) (λ m l. omega (arith, l, next_is b f)) xs k
 
     by : (b : Bool) → Follows limit (entry.Enq n b) w u → Later w (entry.Enq n b ∷ es)
     by true f = record { normals = less true f (normal es) h.normals; lows = (omega (arith, f.0), less true f (low es) h.lows) }
@@ -548,7 +523,7 @@ later limit [] w v l = record { normals = tt; lows = tt }
 later limit (e ∷ es) w v l = later_one limit e es w l.0 (role e) l.1 (later limit es l.0 v l.2)
 
 -- N and L tell the jobs from the next on as the entries do
-abbrev Tells : (ℕ → Bool) → (ℕ → Bool) → ℕ → List Entry → Type 0
+abbrev pub Tells : (ℕ → Bool) → (ℕ → Bool) → ℕ → List Entry → Type 0
 Tells N L next es = (m : ℕ) → next ≤ m → (N m ≡ is_among (normal es) m) × (L m ≡ is_among (low es) m)
 
 told_one : (N L : ℕ → Bool) (limit : ℕ) (e : Entry) (es : List Entry) (w u : Waiting) → Role e → Follows limit e w u → Later u es
@@ -565,7 +540,7 @@ told_one N L limit e es w u (is_enqueue n is_low eq) f h t =
   where
     -- a number of a later job is greater
     greater : u.next ≡ n + 1 → (xs : List ℕ) → AllByRecursion (λ m. u.next ≤ m) xs → is_among xs n ≡ false
-    greater e xs k = among_more n xs (all_weaker (λ m. u.next ≤ m) (λ m. n < m) (λ m l. omega (arith, l, e)) xs k)
+    greater e xs k = among_more n xs (all_by (λ m. u.next ≤ m) (λ m. n < m) (λ m l. omega (arith, l, e)) xs k)
 
     -- and the number is among it and others only where it is itself
     past : u.next ≡ n + 1 → (xs : List ℕ) (m : ℕ) → u.next ≤ m → is_among (n ∷ xs) m ≡ is_among xs m
@@ -604,7 +579,7 @@ told : (N L : ℕ → Bool) (limit : ℕ) (es : List Entry) (w v : Waiting) → 
 told N L limit [] w v l t = tt
 told N L limit (e ∷ es) w v l t = let x = told_one N L limit e es w l.0 (role e) l.1 (later limit es l.0 v l.2) t in (x.0, told N L limit es l.0 v l.2 x.1)
 
-nothing_known : (N L : ℕ → Bool) (limit : ℕ) → Known N L limit [] [] nothing_waits
+pub nothing_known : (N L : ℕ → Bool) (limit : ℕ) → Known N L limit [] [] nothing_waits
 nothing_known N L limit =
     record {
       numbers = record {
@@ -635,7 +610,7 @@ in_order_obeys limit trace h =
     in (
       record { numbered = r.numbered; normal_in_order = r.normals; low_in_order = r.lows },
       record {
-        within = all_weaker (Few N L limit) (IsWithin limit trace) (λ c few. record { normal_jobs = few.0; low_jobs = few.1 }) (cycles_from [] trace) r.within;
+        within = all_by (Few N L limit) (IsWithin limit trace) (λ c few. record { normal_jobs = few.0; low_jobs = few.1 }) (cycles_from [] trace) r.within;
         low_last = r.yields;
       },
     )

@@ -1,10 +1,13 @@
 pub mod Kept
 pub mod KeptRun
+pub mod Loose
 pub mod Ends
 pub mod Order
-pub mod Once
-pub mod Behind
-pub mod Named
-pub mod OnceRun
 pub mod Jobs
+pub mod Back
+pub mod Asked
+pub mod Serving
+pub mod Served
+pub mod Working
+pub mod Worked
 pub mod Laws

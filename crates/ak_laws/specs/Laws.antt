@@ -1,9 +1,10 @@
--- The laws that are proved of the trace of every run whose statements are built. Own.
+-- The laws that the trace of every run of a sound program obeys, whatever the replies are. Own.
 use Rattle.std.specs.Prelude.{ℕ, List}
 use Rattle.ak_trace.specs.declared.entry.Entry.{Entry}
 use Rattle.ak_laws.specs.Ends.{EndsOnce}
-use Rattle.ak_laws.specs.Fills.{FillsOnce}
+use Rattle.ak_holders.specs.Fills.{FillsOnce}
 use Rattle.ak_laws.specs.Jobs.{JobsInOrder, CyclesAreLimited}
+use Rattle.ak_laws.specs.Requests.{RequestsAreServed}
 
 -- a trace obeys them, where at most so many jobs of each priority run in a cycle
 pub record ObeysLaws (limit : ℕ) (trace : List Entry) : Type 0 where
@@ -15,3 +16,5 @@ pub record ObeysLaws (limit : ℕ) (trace : List Entry) : Type 0 where
   pub cycles_are_limited : CyclesAreLimited limit trace
   -- each ivar is filled at most once, and a name that was filled or joined away isn't used again
   pub fills_once : FillsOnce trace
+  -- requests are numbered as they arrive, and each is answered at most once, with the number of its deferred
+  pub requests_are_served : RequestsAreServed trace

@@ -8,7 +8,7 @@ use Rattle.ak_frames.specs.declared.value.Value.TheVariants.{Num, Ivar, Def, Mon
 use Rattle.ak_frames.specs.declared.frame.Ret.{Ret}
 use Rattle.ak_frames.specs.declared.frame.Ret.TheVariants.{Drop, To, TryBody, ThrottleBody}
 use Rattle.ak_frames.specs.declared.frame.Frame.{Frame}
-use Rattle.ak_frames.specs.declared.frame.Frame.TheVariants.{Call, OnValue, AllPart, ChoicePart, TryDone, BodyDone, BodyFailed, Raise}
+use Rattle.ak_frames.specs.declared.frame.Frame.TheVariants.{Call, OnValue, AllPart, ChoicePart, TryDone, BodyDone, BodyFailed, Raise, AnswerOut}
 use Rattle.ak_frames.specs.declared.frame.Task.{Task}
 use Rattle.ak_trace.specs.declared.entry.Entry.TheVariants as entry
 use Rattle.ak_rings.specs.declared.job.Job.{Job}
@@ -32,7 +32,7 @@ use Rattle.ak_machine.specs.declared.held.Started.{Started}
 use Rattle.ak_machine.specs.declared.held.Read.{Read}
 use Rattle.ak_machine.specs.State.{State}
 use Rattle.ak_machine.specs.Deferred.{noting, enqueue, woken_task, woken_by, fill_empty, fill_at, fill, register, register_at, number_at}
-use Rattle.ak_machine.specs.Mapped.{value_mapped, values_mapped, ret_mapped, frame_mapped, task_mapped, job_mapped, queues_mapped, registration_mapped, registration_named, callback_mapped, handler_mapped, handled_mapped, monitor_mapped, choosable_mapped, purpose_mapped, body_mapped, stage_mapped, mark_mapped, throttle_mapped, started_mapped, all_started_mapped, read_mapped, flush_mapped, pipe_mapped, alarm_mapped, clock_mapped, outstanding_mapped, state_mapped, state_named}
+use Rattle.ak_machine.specs.Mapped.{value_mapped, values_mapped, ret_mapped, frame_mapped, task_mapped, job_mapped, queues_mapped, registration_mapped, registration_named, callback_mapped, handler_mapped, handled_mapped, monitor_mapped, choosable_mapped, purpose_mapped, body_mapped, stage_mapped, mark_mapped, throttle_mapped, started_mapped, all_started_mapped, read_mapped, flush_mapped, pipe_mapped, alarm_mapped, clock_mapped, outstanding_mapped, requested_mapped, state_mapped, state_named}
 
 -- a map after a map is a map
 pub map_by : {A B C : Type 0} (g : B → C) (f : A → B) (h : A → C) → ((x : A) → g (f x) ≡ h x) → (xs : List A) → map g (map f xs) ≡ map h xs
@@ -70,6 +70,7 @@ frame_law g f (TryDone a) = refl
 frame_law g f (BodyDone b) = refl
 frame_law g f (BodyFailed b e) = refl
 frame_law g f (Raise e) = refl
+frame_law g f (AnswerOut q) = refl
 
 pub job_law : (g f : ℕ → ℕ) (job : Job Task) → job_mapped g (job_mapped f job) ≡ job_mapped (λ i. g (f i)) job
 job_law g f job = rw (frame_law g f job.frame.frame) refl
@@ -159,20 +160,28 @@ state_twice g f s =
       map_by (pipe_mapped g) (pipe_mapped f) (pipe_mapped (λ i. g (f i))) (pipe_law g f) s.pipes,
       clock_law g f s.clock,
       map_by (outstanding_mapped g) (outstanding_mapped f) (outstanding_mapped (λ i. g (f i))) (λ w. refl) s.works,
+      map_by (requested_mapped g) (requested_mapped f) (requested_mapped (λ i. g (f i))) (λ q. refl) s.requests,
     )
     refl
 
 -- a registration is mapped after its frame was named
-pub registration_named_law : (g f : ℕ → ℕ) (r : Registration Frame) → registration_mapped g (registration_named f r) ≡ registration_named (λ i. g (f i)) (record r { ivar = g r.ivar })
+pub registration_named_law : (g f : ℕ → ℕ) (r : Registration Frame)
+    → registration_mapped g (registration_named f r) ≡ registration_named (λ i. g (f i)) (record r { ivar = g r.ivar })
 registration_named_law g f r = rw (frame_law g f r.frame) refl
 
-registrations_named_law : (g f : ℕ → ℕ) (rs : List (Registration Frame)) → map (registration_mapped g) (map (registration_named f) rs) ≡ map (registration_named (λ i. g (f i))) (map (λ (r : Registration Frame). record r { ivar = g r.ivar }) rs)
+registrations_named_law : (g f : ℕ → ℕ) (rs : List (Registration Frame))
+    → map (registration_mapped g) (map (registration_named f) rs) ≡ map (registration_named (λ i. g (f i)))
+    (map (λ (r : Registration Frame). record r { ivar = g r.ivar }) rs)
 registrations_named_law g f rs =
-    map_by (registration_mapped g) (registration_named f) (λ r. registration_named (λ i. g (f i)) (record r { ivar = g r.ivar })) (registration_named_law g f) rs
-    ∙ sym (map_by (registration_named (λ i. g (f i))) (λ (r : Registration Frame). record r { ivar = g r.ivar }) (λ r. registration_named (λ i. g (f i)) (record r { ivar = g r.ivar })) (λ r. refl) rs)
+    map_by (registration_mapped g) (registration_named f) (λ r. registration_named (λ i. g (f i)) (record r { ivar = g r.ivar }))
+    (registration_named_law g f) rs
+    ∙ sym (map_by (registration_named (λ i. g (f i))) (λ (r : Registration Frame). record r { ivar = g r.ivar })
+    (λ r. registration_named (λ i. g (f i)) (record r { ivar = g r.ivar })) (λ r. refl) rs)
 
 -- a state is mapped after it was named: the handlers' ivars are mapped, and all else is named by both
-pub state_named_law : (g f : ℕ → ℕ) (s : State) → state_mapped g (state_named f s) ≡ state_named (λ i. g (f i)) (record s { cells = record s.cells { registrations = map (λ (r : Registration Frame). record r { ivar = g r.ivar }) s.cells.registrations } })
+pub state_named_law : (g f : ℕ → ℕ) (s : State)
+    → state_mapped g (state_named f s) ≡ state_named (λ i. g (f i))
+    (record s { cells = record s.cells { registrations = map (λ (r : Registration Frame). record r { ivar = g r.ivar }) s.cells.registrations } })
 state_named_law g f s =
     rw (
       registrations_named_law g f s.cells.registrations,
@@ -185,32 +194,48 @@ state_named_law g f s =
       map_by (pipe_mapped g) (pipe_mapped f) (pipe_mapped (λ i. g (f i))) (pipe_law g f) s.pipes,
       clock_law g f s.clock,
       map_by (outstanding_mapped g) (outstanding_mapped f) (outstanding_mapped (λ i. g (f i))) (λ w. refl) s.works,
+      map_by (requested_mapped g) (requested_mapped f) (requested_mapped (λ i. g (f i))) (λ q. refl) s.requests,
     )
     refl
 
 -- a job behind the others
 job_last : (f : ℕ → ℕ) (b : Bool) (n : ℕ) (ctx : Ctx) (task : Task) (q : Queues Task) →
-    queues_mapped f (cond b (record q { low = q.low ++ record { no = n; ctx = ctx; frame = task } ∷ []; next = q.next + 1 }) (record q { normal = q.normal ++ record { no = n; ctx = ctx; frame = task } ∷ []; next = q.next + 1 }))
-    ≡ cond b (record (queues_mapped f q) { low = map (job_mapped f) q.low ++ record { no = n; ctx = ctx; frame = task_mapped f task } ∷ []; next = q.next + 1 }) (record (queues_mapped f q) { normal = map (job_mapped f) q.normal ++ record { no = n; ctx = ctx; frame = task_mapped f task } ∷ []; next = q.next + 1 })
+    queues_mapped f (cond b (record q { low = q.low ++ record { no = n; ctx = ctx; frame = task } ∷ []; next = q.next + 1 })
+    (record q { normal = q.normal ++ record { no = n; ctx = ctx; frame = task } ∷ []; next = q.next + 1 }))
+    ≡ cond b (record (queues_mapped f q) {
+      low = map
+          (job_mapped f) q.low ++ record { no = n; ctx = ctx; frame = task_mapped f task } ∷ [];
+      next = q.next + 1;
+    })
+    (record (queues_mapped f q) {
+      normal = map
+          (job_mapped f) q.normal ++ record { no = n; ctx = ctx; frame = task_mapped f task } ∷ [];
+      next = q.next + 1;
+    })
 job_last f true n ctx task q = rw map-append refl
 job_last f false n ctx task q = rw map-append refl
 
-pub with_job_named : (f : ℕ → ℕ) (ctx : Ctx) (task : Task) (q : Queues Task) → queues_mapped f (with_job ctx task q) ≡ with_job ctx (task_mapped f task) (queues_mapped f q)
+pub with_job_named : (f : ℕ → ℕ) (ctx : Ctx) (task : Task) (q : Queues Task)
+    → queues_mapped f (with_job ctx task q) ≡ with_job ctx (task_mapped f task) (queues_mapped f q)
 with_job_named f ctx task q = job_last f ctx.low q.next ctx task q
 
 pub enqueue_named : (f : ℕ → ℕ) (ctx : Ctx) (task : Task) (s : State) → state_named f (enqueue ctx task s) ≡ enqueue ctx (task_mapped f task) (state_named f s)
-enqueue_named f ctx task s = ap (λ (q : Queues Task). noting (entry.Enq s.queues.next ctx.low) (record (state_named f s) { queues = q })) (with_job_named f ctx task s.queues)
+enqueue_named f ctx task s =
+    ap (λ (q : Queues Task). noting (entry.Enq s.queues.next ctx.low) (record (state_named f s) { queues = q })) (with_job_named f ctx task s.queues)
 
 -- a filter by what the map keeps
-pub filter_mapped : {A B : Type 0} (p : A → Bool) (q : B → Bool) (h : A → B) → ((x : A) → q (h x) ≡ p x) → (xs : List A) → filter q (map h xs) ≡ map h (filter p xs)
+pub filter_mapped : {A B : Type 0} (p : A → Bool) (q : B → Bool) (h : A → B) → ((x : A) → q (h x) ≡ p x) → (xs : List A)
+    → filter q (map h xs) ≡ map h (filter p xs)
 filter_mapped p q h e [] = refl
-filter_mapped p q h e (x ∷ xs) = ap (λ b. cond b (h x ∷ filter q (map h xs)) (filter q (map h xs))) (e x) ∙ ap (λ ys. cond (p x) (h x ∷ ys) ys) (filter_mapped p q h e xs) ∙ into (p x)
+filter_mapped p q h e (x ∷ xs) =
+    ap (λ b. cond b (h x ∷ filter q (map h xs)) (filter q (map h xs))) (e x) ∙ ap (λ ys. cond (p x) (h x ∷ ys) ys) (filter_mapped p q h e xs) ∙ into (p x)
   where
     into : (b : Bool) → cond b (h x ∷ map h (filter p xs)) (map h (filter p xs)) ≡ map h (cond b (x ∷ filter p xs) (filter p xs))
     into true = refl
     into false = refl
 
-pub woken_named : (f : ℕ → ℕ) (v : ℤ) (gs : List (Registration Frame)) (s : State) → state_named f (fold (woken_by v) s gs) ≡ fold (woken_by v) (state_named f s) (map (registration_named f) gs)
+pub woken_named : (f : ℕ → ℕ) (v : ℤ) (gs : List (Registration Frame)) (s : State)
+    → state_named f (fold (woken_by v) s gs) ≡ fold (woken_by v) (state_named f s) (map (registration_named f) gs)
 woken_named f v [] s = refl
 woken_named f v (g ∷ gs) s =
     woken_named f v gs (woken_by v s g)
@@ -221,7 +246,8 @@ fill_empty_named f i v s =
     let t : State = noting (entry.Fill i v) (record s { cells = filled i v s.cells })
     in woken_named f v (waiting_on i s.cells) t
     ∙ ap (λ gs. fold (woken_by v) (state_named f t) gs) (sym (filter_mapped (is_on i) (is_on i) (registration_named f) (λ g. refl) s.cells.registrations))
-    ∙ ap (λ (rs : List (Registration Frame)). fold (woken_by v) (record (state_named f t) { cells = record t.cells { registrations = rs } }) (filter (is_on i) (map (registration_named f) s.cells.registrations)))
+    ∙ ap (λ (rs : List (Registration Frame)). fold (woken_by v) (record (state_named f t) { cells = record t.cells { registrations = rs } })
+    (filter (is_on i) (map (registration_named f) s.cells.registrations)))
     (sym (filter_mapped (is_off i) (is_off i) (registration_named f) (λ g. refl) s.cells.registrations))
 
 pub fill_at_named : (f : ℕ → ℕ) (o : Option ℤ) (i : ℕ) (v : ℤ) (s : State) → state_named f (fill_at o i v s) ≡ fill_at o i v (state_named f s)
@@ -231,9 +257,11 @@ fill_at_named f None i v s = fill_empty_named f i v s
 pub fill_named : (f : ℕ → ℕ) (i : ℕ) (v : ℤ) (s : State) → state_named f (fill i v s) ≡ fill i v (state_named f s)
 fill_named f i v s = fill_at_named f (number_at i s) i v s
 
-pub register_at_named : (f : ℕ → ℕ) (o : Option ℤ) (i : ℕ) (ctx : Ctx) (frame : Frame) (s : State) → state_named f (register_at o i ctx frame s) ≡ register_at o i ctx (frame_mapped f frame) (state_named f s)
+pub register_at_named : (f : ℕ → ℕ) (o : Option ℤ) (i : ℕ) (ctx : Ctx) (frame : Frame) (s : State)
+    → state_named f (register_at o i ctx frame s) ≡ register_at o i ctx (frame_mapped f frame) (state_named f s)
 register_at_named f (Some v) i ctx frame s = enqueue_named f ctx (woken_task frame v) s
 register_at_named f None i ctx frame s = rw map-append refl
 
-pub register_named : (f : ℕ → ℕ) (i : ℕ) (ctx : Ctx) (frame : Frame) (s : State) → state_named f (register i ctx frame s) ≡ register i ctx (frame_mapped f frame) (state_named f s)
+pub register_named : (f : ℕ → ℕ) (i : ℕ) (ctx : Ctx) (frame : Frame) (s : State)
+    → state_named f (register i ctx frame s) ≡ register i ctx (frame_mapped f frame) (state_named f s)
 register_named f i ctx frame s = register_at_named f (number_at i s) i ctx frame s

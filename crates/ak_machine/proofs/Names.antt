@@ -60,7 +60,8 @@ trimmed_last (n ∷ ns) k =
     let e : k + length (n ∷ ns) ≡ (k + 1) + length ns = omega arith
     in ap (λ x. kept_name (n == k) n (trimmed_from (k + 1) (ns ++ x ∷ []))) e ∙ ap (kept_name (n == k) n) (trimmed_last ns (k + 1))
 
-kept_read : (b : Bool) (n k : ℕ) (ns ts : List ℕ) → (n == k) ≡ b → ((j : ℕ) → get_or ts j ((k + 1) + j) ≡ get_or ns j ((k + 1) + j)) → (j : ℕ) → get_or (kept_name b n ts) j (k + j) ≡ get_or (n ∷ ns) j (k + j)
+kept_read : (b : Bool) (n k : ℕ) (ns ts : List ℕ) → (n == k) ≡ b → ((j : ℕ) → get_or ts j ((k + 1) + j) ≡ get_or ns j ((k + 1) + j)) → (j : ℕ)
+    → get_or (kept_name b n ts) j (k + j) ≡ get_or (n ∷ ns) j (k + j)
 kept_read true n k ns [] e h zero = let p : n ≡ k = eqb-true n k e in omega (arith, p)
 kept_read true n k ns [] e h (suc j) = let p : (k + 1) + j ≡ k + suc j = omega arith in subst (λ x. x ≡ get_or ns j x) p (h j)
 kept_read true n k ns (t ∷ ts) e h zero = refl

@@ -17,7 +17,8 @@ renamed_else from to i true e h = absurd (h (eqb-true i from e))
 
 -- of a renamed number nothing is left to rename
 renamed_again : (from to other i : ℕ) → ¬ (to ≡ from) → (b : Bool) → (i == from) ≡ b → renamed from other (renamed from to i) ≡ renamed from to i
-renamed_again from to other i h true e = ap (λ x. renamed from other (cond x to i)) e ∙ renamed_else from other to (to == from) refl h ∙ ap (λ x. cond x to i) (sym e)
+renamed_again from to other i h true e =
+    ap (λ x. renamed from other (cond x to i)) e ∙ renamed_else from other to (to == from) refl h ∙ ap (λ x. cond x to i) (sym e)
 renamed_again from to other i h false e = ap (λ x. renamed from other (cond x to i)) e ∙ ap (λ x. cond x other i) e ∙ ap (λ x. cond x to i) (sym e)
 
 pub renamed_twice : (from to other : ℕ) → ¬ (to ≡ from) → (λ i. renamed from other (renamed from to i)) ≡ renamed from to
@@ -27,11 +28,14 @@ pub renamed_is_gone : (from to other : ℕ) (s : State) → ¬ (to ≡ from) →
 renamed_is_gone from to other s h =
     state_twice (renamed from other) (renamed from to) s ∙ ap (λ f. state_mapped f s) (renamed_twice from to other h)
 
-connected_is_gone : (result right other : ℕ) (s : State) (b : Bool) → (result == right) ≡ b → ¬ (result ≡ right) → number_at result s ≡ None → number_at right s ≡ None
-    → state_renamed right other (cond b s (connect_at (number_at result s) (number_at right s) result right s)) ≡ cond b s (connect_at (number_at result s) (number_at right s) result right s)
+connected_is_gone : (result right other : ℕ) (s : State) (b : Bool) → (result == right) ≡ b → ¬ (result ≡ right) → number_at result s ≡ None
+    → number_at right s ≡ None
+    → state_renamed right other (cond b s (connect_at (number_at result s) (number_at right s) result right s)) ≡ cond b s
+    (connect_at (number_at result s) (number_at right s) result right s)
 connected_is_gone result right other s true e h p q = absurd (h (eqb-true result right e))
 connected_is_gone result right other s false e h p q =
     rw (p, q) (renamed_is_gone right result other (noting (entry.Join result right) s) h)
 
-pub connection_is_gone : (result right other : ℕ) (s : State) → ¬ (result ≡ right) → number_at result s ≡ None → number_at right s ≡ None → state_renamed right other (connect result right s) ≡ connect result right s
+pub connection_is_gone : (result right other : ℕ) (s : State) → ¬ (result ≡ right) → number_at result s ≡ None → number_at right s ≡ None
+    → state_renamed right other (connect result right s) ≡ connect result right s
 connection_is_gone result right other s h p q = connected_is_gone result right other s (result == right) refl h p q

@@ -1,17 +1,17 @@
 -- Alarms and pending yields in the state. From Async's documentation of `Clock` and `yield` in outline.
-use Rattle.std.specs.Prelude.{ℕ, ℤ, pos, Option, Some, None, length, fold}
+use Rattle.std.specs.Prelude.{ℕ, ℤ, pos, Option, Some, None, fold}
 use Rattle.ak_clock.specs.declared.alarm.Alarm.{Alarm}
 use Rattle.ak_clock.specs.Clock as clock
-use Rattle.ak_machine.specs.State.{State}
+use Rattle.ak_machine.specs.State.{State, next_ivar}
 use Rattle.ak_machine.specs.Deferred.{with_ivar, fill, filled_with}
 
 -- a fresh deferred with an alarm at a time
 abbrev pub with_alarm : ℤ → State → State
-with_alarm time s = record (with_ivar s) { clock = clock.with_alarm time (length s.cells.ivars) s.clock }
+with_alarm time s = record (with_ivar s) { clock = clock.with_alarm time (next_ivar s) s.clock }
 
 -- a fresh deferred that waits for the next cycle
 abbrev pub with_yield : State → State
-with_yield s = record (with_ivar s) { clock = clock.with_yield (length s.cells.ivars) s.clock }
+with_yield s = record (with_ivar s) { clock = clock.with_yield (next_ivar s) s.clock }
 
 -- an alarm is aborted, where it is pending
 abbrev pub aborted_at : Option Alarm → State → State

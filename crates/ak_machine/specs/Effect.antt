@@ -1,5 +1,5 @@
 -- What a statement may do, and the values that it reads. Own.
-use Rattle.std.specs.Prelude.{ℕ, ℤ, pos, negsuc, List, [], ◌∷◌, ◌++◌, map, Bool, true, not, Option, Some, None, length, slice_index_or}
+use Rattle.std.specs.Prelude.{ℕ, ℤ, pos, negsuc, List, [], ◌∷◌, ◌++◌, map, Bool, true, not, Option, Some, None, slice_index_or}
 use Rattle.ak_labor.specs.declared.ask.Ask.{Ask}
 use Rattle.ak_frames.specs.declared.value.Value.{Value}
 use Rattle.ak_frames.specs.declared.value.Value.TheVariants.{Num, Ivar, Def, Mon, Pipe, Thr, Event, Helper}
@@ -8,7 +8,7 @@ use Rattle.ak_program.specs.declared.statement.NumAtom.TheVariants.{Literal, Loc
 use Rattle.ak_program.specs.declared.program.NumPrefix.{NumPrefix}
 use Rattle.ak_program.specs.declared.program.NumPrefix.TheVariants.{If, Unless}
 use Rattle.ak_machine.specs.declared.held.Callback.{Callback}
-use Rattle.ak_machine.specs.State.{State}
+use Rattle.ak_machine.specs.State.{State, next_ivar}
 use Rattle.ak_machine.specs.Number.{is_zero}
 use Rattle.ak_machine.specs.Errors.{After}
 
@@ -104,11 +104,11 @@ bound vals v = vals ++ v ∷ []
 
 -- one more local, which is the next ivar, to be waited for
 abbrev pub result_bound : State → List Value → List Value
-result_bound s vals = bound vals (Def (length s.cells.ivars))
+result_bound s vals = bound vals (Def (next_ivar s))
 
 -- a call whose return goes to the next ivar
 abbrev pub call_to_fresh : State → ℕ → List Value → Callback
-call_to_fresh s proc vals = record { proc = proc; vals = vals; to = length s.cells.ivars }
+call_to_fresh s proc vals = record { proc = proc; vals = vals; to = next_ivar s }
 
 -- whether a statement is run
 abbrev pub holds : Option NumPrefix → List Value → Bool

@@ -7,8 +7,8 @@ use Rattle.ak_frames.specs.declared.frame.Ret.TheVariants.{Drop}
 use Rattle.ak_trace.specs.declared.entry.Entry.TheVariants as entry
 use Rattle.ak_trace.specs.declared.entry.Ending.TheVariants as ending
 use Rattle.ak_monitor.specs.Monitors.{monitor_in, without_next_errors, path, catcher, up_to}
-use Rattle.ak_machine.specs.declared.config.Flow.{Flow}
-use Rattle.ak_machine.specs.declared.config.Flow.TheVariants as flow
+use Rattle.ak_machine.specs.declared.flow.Flow.{Flow}
+use Rattle.ak_machine.specs.declared.flow.Flow.TheVariants as flow
 use Rattle.ak_machine.specs.declared.held.Handler.{Handler}
 use Rattle.ak_machine.specs.declared.held.Handler.TheVariants.{OnError, OfGuard, OfBody}
 use Rattle.ak_machine.specs.State.{State}

@@ -1,5 +1,6 @@
 -- Numbers of scripts: 64 bits with a sign. Own.
 use Rattle.std.specs.Prelude.{ℤ, pos, negsuc, ◌+ℤ◌, ◌-ℤ◌, ◌*ℤ◌, ◌^◌, zero, suc, Bool, true, false, not, nat_lt, int_lt, int_le, int_div, int_rem, if◌then◌else◌}
+use Rattle.ak_base.specs.Numbers.{fits}
 use Rattle.ak_script.specs.declared.statement.Operator.{Operator}
 use Rattle.ak_script.specs.declared.statement.Operator.TheVariants.{Add, Sub, Mul, Div, Rem, Less, LessEq, Equal, NotEqual}
 
@@ -8,11 +9,6 @@ pub data Computed : Type 0 where
   Gives : ℤ → Computed
   Overflows : Computed
   DividesByZero : Computed
-
--- whether a number has 64 bits
-abbrev pub fits : ℤ → Bool
-fits (pos n) = nat_lt n (2 ^ 63)
-fits (negsuc n) = nat_lt n (2 ^ 63)
 
 -- the number, where it has 64 bits
 abbrev pub in_range : ℤ → Computed

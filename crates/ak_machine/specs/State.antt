@@ -1,5 +1,5 @@
 -- The state of the plain machine: the parts' own records, and beside them what the machine keeps for each. Own.
-use Rattle.std.specs.Prelude.{ℕ, List, []}
+use Rattle.std.specs.Prelude.{ℕ, List, [], length}
 use Rattle.ak_cells.specs.Cells.{Cells, no_cells}
 use Rattle.ak_rings.specs.Queues.{Queues, no_jobs}
 use Rattle.ak_monitor.specs.Monitors.{Monitor, root_alone}
@@ -17,6 +17,7 @@ use Rattle.ak_machine.specs.declared.held.Started.{Started}
 use Rattle.ak_machine.specs.declared.held.Read.{Read}
 use Rattle.ak_machine.specs.declared.held.HelperState.{HelperState}
 use Rattle.ak_machine.specs.declared.held.Outstanding.{Outstanding}
+use Rattle.ak_machine.specs.declared.held.Requested.{Requested}
 
 -- everything but what is asked of the pool
 pub record State : Type 0 where
@@ -38,11 +39,14 @@ pub record State : Type 0 where
   -- the works that have not arrived, oldest first, and the number of the next one
   pub works : List Outstanding
   pub next_work : ℕ
+  -- the requests from outside, in order of their numbers, and how many askers are left by the last reply
+  pub requests : List Requested
+  pub left : ℕ
   pub trace : List Entry
 
--- nothing but the root monitor, with a limit of jobs in a cycle
-abbrev pub initial_state : ℕ → State
-initial_state limit =
+-- nothing but the root monitor, with a limit of jobs in a cycle and so many askers
+abbrev pub initial_state : ℕ → ℕ → State
+initial_state limit askers =
     record {
       cells = no_cells;
       queues = no_jobs limit;
@@ -56,5 +60,11 @@ initial_state limit =
       helpers = [];
       works = [];
       next_work = 0;
+      requests = [];
+      left = askers;
       trace = [];
     }
+
+-- the number of the ivar that is drawn next
+abbrev pub next_ivar : State → ℕ
+next_ivar s = length s.cells.ivars

@@ -14,7 +14,8 @@ use ak_base::number::IvarNo;
 /// To map the names of a state twice is to map them once, by one map after the other.
 #[tactic(auto, using(crate::proofs::Mapped::state_twice))]
 pub fn maps_compose()
-    ensures { (f g : ℕ → ℕ) (s : State) → state_mapped g (state_mapped f s) ≡ state_mapped (λ i. g (f i)) s }
+    ensures { (f g : ℕ → ℕ) (s : State) → state_mapped g (state_mapped f s)
+        ≡ state_mapped (λ i. g (f i)) s }
 {}
 
 /// A map reaches every name: the ivars that a mapped state names are those that the state names, mapped.
@@ -42,7 +43,8 @@ pub fn connection_renames_once(left: IvarNo, right: IvarNo, other: IvarNo)
 /// It is one whether the names of a state are resolved before or after an ivar is filled.
 #[tactic(auto, using(crate::proofs::Mapped::fill_named))]
 pub fn fill_keeps_names()
-    ensures { (f : ℕ → ℕ) (i : ℕ) (v : ℤ) (s : State) → state_named f (fill i v s) ≡ fill i v (state_named f s) }
+    ensures { (f : ℕ → ℕ) (i : ℕ) (v : ℤ) (s : State) → state_named f (fill i v s)
+        ≡ fill i v (state_named f s) }
 {}
 
 /// And before or after a handler is registered.

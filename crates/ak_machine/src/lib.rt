@@ -2,7 +2,7 @@
 //! against them.
 #![tactic(auto)]
 
-pub mod config;
+pub mod flow;
 pub mod held;
 pub mod law;
 pub mod steps;

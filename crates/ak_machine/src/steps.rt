@@ -1,7 +1,8 @@
 //! Single steps that are worked by hand. The bodies are empty: each contract is what the step must do.
 
 ghost use Rattle.std.specs.Prelude.{◌≡◌, pos, [], ◌∷◌, ◌++◌, false};
-ghost use Rattle.ak_labor.specs.Calls.{Pairs, Done};
+ghost use Rattle.ak_labor.specs.Arrived.{nothing_arrived};
+ghost use Rattle.ak_labor.specs.Calls.{Drained, Done};
 ghost use Rattle.ak_frames.specs.declared.value.Value.TheVariants.{Num};
 ghost use Rattle.ak_machine.specs.Deferred.{fill, connect};
 ghost use Rattle.ak_machine.specs.Groups.{first_call, first_number, part_set, all_call};
@@ -9,12 +10,13 @@ ghost use Rattle.ak_machine.specs.Errors.{send};
 ghost use Rattle.ak_machine.specs.Run.{run_of};
 ghost use Rattle.ak_machine.specs.Steps.{job_of, three_wait, both_full, choosing, all_of_two, call_of_three, two_detached};
 
-use crate::config::Flow;
+use crate::flow::Flow;
 use ak_trace::entry::{Ending, Entry};
 
 /// A fill enqueues the handlers of its ivar, the oldest first, and leaves those of other ivars.
 pub fn fill_wakes_the_oldest_first()
-    ensures { (fill 0 (pos 7) three_wait).queues.normal ≡ job_of 0 1 (pos 7) ∷ job_of 1 3 (pos 7) ∷ [] }
+    ensures { (fill 0 (pos 7) three_wait).queues.normal ≡ job_of 0 1 (pos 7) ∷ job_of 1 3 (pos 7)
+        ∷ [] }
 {}
 
 /// After a connection a fill of the result enqueues the handlers of both, in order of registration.
@@ -43,7 +45,8 @@ pub fn all_waits_for_every_part()
 
 /// A detached monitor catches an error that is raised in itself, and the one above it doesn't learn of it.
 pub fn error_is_caught_where_it_was_raised()
-    ensures { (send 2 (pos 5) two_detached).state.trace ≡ two_detached.trace ++ Entry.Error (pos 5) 2 ∷ Entry.Caught 2 ∷ [] }
+    ensures { (send 2 (pos 5) two_detached).state.trace
+        ≡ two_detached.trace ++ Entry.Error (pos 5) 2 ∷ Entry.Caught 2 ∷ [] }
 {}
 
 /// An error that no monitor of its path catches ends the run.
@@ -55,6 +58,8 @@ pub fn error_at_the_root_ends_the_run()
 
 /// A run that may have no job ends at the limit of jobs, although its first job waits.
 pub fn no_job_beyond_the_limit()
-    ensures { (run_of [] 0 (record { threads = 1; limit = 1; jobs = 0 }) (Pairs [] ∷ Done ∷ [])).trace
+    ensures { (run_of (record { procs = []; main = 0; ask = None })
+        (record { threads = 1; limit = 1; jobs = 0; askers = 0 })
+        (Drained nothing_arrived ∷ Done ∷ [])).trace
         ≡ Entry.Enq 0 false ∷ Entry.Cycle ∷ Entry.End Ending.Jobs ∷ [] }
 {}

@@ -15,8 +15,8 @@ use Rattle.ak_labor.specs.declared.ask.Ask.TheVariants as ask
 use Rattle.ak_history.specs.declared.event.Event.{Event}
 use Rattle.ak_history.specs.Events.{numbers_below}
 use Rattle.ak_history.specs.Scheduler.{ask_of, asks}
-use Rattle.ak_program.specs.declared.program.NumProc.{NumProc}
-use Rattle.ak_machine.specs.declared.config.Config.{Config}
+use Rattle.ak_program.specs.Programs.{NumProgram}
+use Rattle.ak_labor.specs.declared.config.Config.{Config}
 use Rattle.ak_machine.specs.Run.{Ran, HasEnded, Wants, IsWrong}
 use Rattle.ak_meets.specs.Meets.{sched, wanted, wanted_at, run_to, Agree, Meeting, Yes, Stray, Short, Meets}
 
@@ -68,6 +68,11 @@ ask_either ask.Drain ask.Drain = inl refl
 ask_either ask.Close ask.Close = inl refl
 ask_either (ask.HelperNew a) (ask.HelperNew b) = elim (cases_eq a b) [ inl p ↦ inl (ap ask.HelperNew p) | inr n ↦ inr (λ h. n cc) ]
 ask_either (ask.HelperEnd a) (ask.HelperEnd b) = elim (cases_eq a b) [ inl p ↦ inl (ap ask.HelperEnd p) | inr n ↦ inr (λ h. n cc) ]
+ask_either (ask.Answer a v) (ask.Answer b w) =
+    elim (cases_eq a b) [
+      | inl p ↦ elim (int_either v w) [ inl q ↦ inl (λ i. ask.Answer (p i) (q i)) | inr n ↦ inr (λ e. n cc) ]
+      | inr n ↦ inr (λ e. n cc)
+    ]
 ask_either a b = inr (λ h. cc)
 
 -- ---- the place of a call
@@ -78,7 +83,8 @@ record Found (history : List Event) (k : ℕ) (a : Ask) : Type 0 where
   is : ask_of kept ≡ Some a
   behind : length (sched (take place history)) ≡ k
 
-found_by : (o : Option Ask) (e : Event) (events : List Event) (k : ℕ) (a : Ask) → ask_of e ≡ o → ((j : ℕ) → slice_get (asks events) j ≡ Some a → Found events j a) → slice_get (cons_option o (asks events)) k ≡ Some a → Found (e ∷ events) k a
+found_by : (o : Option Ask) (e : Event) (events : List Event) (k : ℕ) (a : Ask) → ask_of e ≡ o
+    → ((j : ℕ) → slice_get (asks events) j ≡ Some a → Found events j a) → slice_get (cons_option o (asks events)) k ≡ Some a → Found (e ∷ events) k a
 found_by None e events k a is rest h =
     let f : Found events k a = rest k h
     in record {
@@ -110,7 +116,8 @@ take_suc zero (b ∷ calls) a h = let same : b ≡ a = cc in ap (λ c. c ∷ [])
 take_suc (suc k) [] a h = cc
 take_suc (suc k) (b ∷ calls) a h = ap (λ cs. b ∷ cs) (take_suc k calls a h)
 
-agree_more : (w : ℕ → Option Ask) (calls : List Ask) (k : ℕ) (a : Ask) → map w (numbers_below k) ≡ map Some (take k calls) → w k ≡ Some a → slice_get calls k ≡ Some a → map w (numbers_below (suc k)) ≡ map Some (take (suc k) calls)
+agree_more : (w : ℕ → Option Ask) (calls : List Ask) (k : ℕ) (a : Ask) → map w (numbers_below k) ≡ map Some (take k calls) → w k ≡ Some a
+    → slice_get calls k ≡ Some a → map w (numbers_below (suc k)) ≡ map Some (take (suc k) calls)
 agree_more w calls k a agree want made =
     map-append w (numbers_below k) (k ∷ [])
     ∙ ap (λ (xs : List (Option Ask)). xs ++ w k ∷ []) agree
@@ -119,25 +126,27 @@ agree_more w calls k a agree want made =
     ∙ ap (map Some) (sym (take_suc k calls a made))
 
 -- ---- how far they go together
-abbrev OneOf : List NumProc → ℕ → Config → List Event → Type 0
-OneOf program main config history =
-    ((m : Meeting) × Meets program main config history m) ⊎ ((k : ℕ) × Agree program main config history k × ((run_to program main config history k).outcome ≡ IsWrong))
+abbrev OneOf : NumProgram → Config → List Event → Type 0
+OneOf program config history =
+    ((m : Meeting) × Meets program config history m) ⊎ ((k : ℕ) × Agree program config history k × ((run_to program config history k).outcome ≡ IsWrong))
 
-last_by : (program : List NumProc) (main : ℕ) (config : Config) (history : List Event) (k : ℕ) (r : Ran) → (run_to program main config history k).outcome ≡ r → length (asks history) ≡ k → Agree program main config history k → OneOf program main config history
-last_by program main config history k HasEnded e l agree = inl (Yes, (k, record { agree = agree; ended = e }))
-last_by program main config history k IsWrong e l agree = inr (k, agree, e)
-last_by program main config history k (Wants a) e l agree = inl (Short a, (k, record { agree = agree; wants = ap wanted e; none_left = l }))
+last_by : (program : NumProgram) (config : Config) (history : List Event) (k : ℕ) (r : Ran) → (run_to program config history k).outcome ≡ r
+    → length (asks history) ≡ k → Agree program config history k → OneOf program config history
+last_by program config history k HasEnded e l agree = inl (Yes, (k, record { agree = agree; ended = e }))
+last_by program config history k IsWrong e l agree = inr (k, agree, e)
+last_by program config history k (Wants a) e l agree = inl (Short a, (k, record { agree = agree; wants = ap wanted e; none_left = l }))
 
-more_by : (program : List NumProc) (main : ℕ) (config : Config) (history : List Event) (k : ℕ) (r : Ran) → (run_to program main config history k).outcome ≡ r → k < length (asks history) → Agree program main config history k
-    → (Agree program main config history (suc k) → OneOf program main config history) → OneOf program main config history
-more_by program main config history k HasEnded e l agree rest = inl (Yes, (k, record { agree = agree; ended = e }))
-more_by program main config history k IsWrong e l agree rest = inr (k, agree, e)
-more_by program main config history k (Wants a) e l agree rest =
+more_by : (program : NumProgram) (config : Config) (history : List Event) (k : ℕ) (r : Ran) → (run_to program config history k).outcome ≡ r
+    → k < length (asks history) → Agree program config history k
+    → (Agree program config history (suc k) → OneOf program config history) → OneOf program config history
+more_by program config history k HasEnded e l agree rest = inl (Yes, (k, record { agree = agree; ended = e }))
+more_by program config history k IsWrong e l agree rest = inr (k, agree, e)
+more_by program config history k (Wants a) e l agree rest =
     let b : Ask = get_or (asks history) k a
     in let made : slice_get (asks history) k ≡ Some b = slice_get-get_or (asks history) k a l
-    in let want : wanted_at program main config history k ≡ Some a = ap wanted e
+    in let want : wanted_at program config history k ≡ Some a = ap wanted e
     in elim (ask_either b a) [
-      | inl same ↦ rest (agree_more (wanted_at program main config history) (asks history) k b agree (want ∙ ap Some (sym same)) made)
+      | inl same ↦ rest (agree_more (wanted_at program config history) (asks history) k b agree (want ∙ ap Some (sym same)) made)
       | inr other ↦
           let f : Found history k b = found history k b made
           in inl (
@@ -159,11 +168,12 @@ more_by program main config history k (Wants a) e l agree rest =
     some_is : (x y : Ask) → Some x ≡ Some y → x ≡ y
     some_is x y h = cc
 
-one_from : (program : List NumProc) (main : ℕ) (config : Config) (history : List Event) (n k : ℕ) → length (asks history) ≡ k + n → Agree program main config history k → OneOf program main config history
-one_from program main config history zero k l agree = last_by program main config history k (run_to program main config history k).outcome refl (omega (arith, l)) agree
-one_from program main config history (suc n) k l agree =
-    more_by program main config history k (run_to program main config history k).outcome refl (omega (arith, l)) agree
-    (λ more. one_from program main config history n (suc k) (omega (arith, l)) more)
+one_from : (program : NumProgram) (config : Config) (history : List Event) (n k : ℕ) → length (asks history) ≡ k + n → Agree program config history k
+    → OneOf program config history
+one_from program config history zero k l agree = last_by program config history k (run_to program config history k).outcome refl (omega (arith, l)) agree
+one_from program config history (suc n) k l agree =
+    more_by program config history k (run_to program config history k).outcome refl (omega (arith, l)) agree
+    (λ more. one_from program config history n (suc k) (omega (arith, l)) more)
 
-pub some_meeting : (program : List NumProc) (main : ℕ) (config : Config) (history : List Event) → OneOf program main config history
-some_meeting program main config history = one_from program main config history (length (asks history)) 0 (omega arith) refl
+pub some_meeting : (program : NumProgram) (config : Config) (history : List Event) → OneOf program config history
+some_meeting program config history = one_from program config history (length (asks history)) 0 (omega arith) refl

@@ -4,11 +4,11 @@ use Rattle.ak_labor.specs.declared.ask.Ask.{Ask}
 use Rattle.ak_history.specs.declared.event.Event.{Event}
 use Rattle.ak_history.specs.Events.{numbers_below}
 use Rattle.ak_history.specs.Scheduler.{ask_of, asks, replies}
-use Rattle.ak_program.specs.declared.program.NumProc.{NumProc}
-use Rattle.ak_machine.specs.declared.config.Config.{Config}
+use Rattle.ak_program.specs.Programs.{NumProgram}
+use Rattle.ak_labor.specs.declared.config.Config.{Config}
 use Rattle.ak_machine.specs.Run.{Run, Ran, HasEnded, Wants, IsWrong, run_of}
 
--- an event of the scheduler: all but those of the workers
+-- an event of the scheduler: all but those of workers and askers
 abbrev pub is_scheduler : Event → Bool
 is_scheduler e = is_some (ask_of e)
 
@@ -23,16 +23,16 @@ wanted (Wants a) = Some a
 wanted IsWrong = None
 
 -- the machine's run on the first k replies of a history
-abbrev pub run_to : List NumProc → ℕ → Config → List Event → ℕ → Run
-run_to program main config history k = run_of program main config (take k (replies history))
+abbrev pub run_to : NumProgram → Config → List Event → ℕ → Run
+run_to program config history k = run_of program config (take k (replies config.askers history))
 
-abbrev pub wanted_at : List NumProc → ℕ → Config → List Event → ℕ → Option Ask
-wanted_at program main config history k = wanted (run_to program main config history k).outcome
+abbrev pub wanted_at : NumProgram → Config → List Event → ℕ → Option Ask
+wanted_at program config history k = wanted (run_to program config history k).outcome
 
 -- each of the first k calls of the history is the one that the machine makes after the replies before it
-abbrev pub Agree : List NumProc → ℕ → Config → List Event → ℕ → Type 0
-Agree program main config history k =
-    map (wanted_at program main config history) (numbers_below k) ≡ map Some (take k (asks history))
+abbrev pub Agree : NumProgram → Config → List Event → ℕ → Type 0
+Agree program config history k =
+    map (wanted_at program config history) (numbers_below k) ≡ map Some (take k (asks history))
 
 -- what comes of it: they go together to the run's end; or at a place of the history stands another event than the one that
 -- the machine asks for; or the history ends before the machine's call
@@ -42,28 +42,28 @@ pub data Meeting : Type 0 where
   Short : (asked : Ask) → Meeting
 
 -- the machine has ended after the first k calls
-pub record MeetsTo (program : List NumProc) (main : ℕ) (config : Config) (history : List Event) (k : ℕ) : Type 0 where
-  pub agree : Agree program main config history k
-  pub ended : (run_to program main config history k).outcome ≡ HasEnded
+pub record MeetsTo (program : NumProgram) (config : Config) (history : List Event) (k : ℕ) : Type 0 where
+  pub agree : Agree program config history k
+  pub ended : (run_to program config history k).outcome ≡ HasEnded
 
 -- the event behind the first k calls, at its place, is not the call that the machine makes then
-pub record StraysAt (program : List NumProc) (main : ℕ) (config : Config) (history : List Event) (place : ℕ) (asked : Ask) (kept : Event) (k : ℕ) : Type 0 where
-  pub agree : Agree program main config history k
-  pub wants : wanted_at program main config history k ≡ Some asked
+pub record StraysAt (program : NumProgram) (config : Config) (history : List Event) (place : ℕ) (asked : Ask) (kept : Event) (k : ℕ) : Type 0 where
+  pub agree : Agree program config history k
+  pub wants : wanted_at program config history k ≡ Some asked
   pub there : slice_get history place ≡ Some kept
   pub of_scheduler : is_scheduler kept ≡ true
   pub behind : length (sched (take place history)) ≡ k
   pub differs : ask_of kept ≢ Some asked
 
 -- no call is left behind the first k, and the machine makes one more
-pub record EndsAt (program : List NumProc) (main : ℕ) (config : Config) (history : List Event) (asked : Ask) (k : ℕ) : Type 0 where
-  pub agree : Agree program main config history k
-  pub wants : wanted_at program main config history k ≡ Some asked
+pub record EndsAt (program : NumProgram) (config : Config) (history : List Event) (asked : Ask) (k : ℕ) : Type 0 where
+  pub agree : Agree program config history k
+  pub wants : wanted_at program config history k ≡ Some asked
   pub none_left : length (asks history) ≡ k
 
 -- how a history meets the run of a program under these settings
-abbrev pub Meets : List NumProc → ℕ → Config → List Event → Meeting → Type 0
-Meets program main config history Yes = (k : ℕ) × MeetsTo program main config history k
-Meets program main config history (Stray place asked kept) =
-    (k : ℕ) × StraysAt program main config history place asked kept k
-Meets program main config history (Short asked) = (k : ℕ) × EndsAt program main config history asked k
+abbrev pub Meets : NumProgram → Config → List Event → Meeting → Type 0
+Meets program config history Yes = (k : ℕ) × MeetsTo program config history k
+Meets program config history (Stray place asked kept) =
+    (k : ℕ) × StraysAt program config history place asked kept k
+Meets program config history (Short asked) = (k : ℕ) × EndsAt program config history asked k

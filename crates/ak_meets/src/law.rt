@@ -5,8 +5,8 @@ ghost use Rattle.std.specs.Prelude.{ℕ, ◌≡◌, ◌⊎◌, List};
 ghost use Rattle.ak_labor.specs.declared.ask.Ask.TheVariants as ask;
 ghost use Rattle.ak_history.specs.declared.event.Event.TheVariants as event;
 ghost use Rattle.ak_history.specs.declared.event.Event.{Event};
-ghost use Rattle.ak_program.specs.declared.program.NumProc.{NumProc};
-ghost use Rattle.ak_machine.specs.declared.config.Config.{Config};
+ghost use Rattle.ak_program.specs.Programs.{NumProgram};
+ghost use Rattle.ak_labor.specs.declared.config.Config.{Config};
 ghost use Rattle.ak_machine.specs.Run.{IsWrong};
 ghost use Rattle.ak_meets.specs.Meets.{Meeting, Meets, Agree, run_to, Yes, Stray, Short};
 ghost use Rattle.ak_meets.specs.Printing.{printing, usual, whole, closed_early, cut};
@@ -15,28 +15,28 @@ ghost use Rattle.ak_meets.specs.Printing.{printing, usual, whole, closed_early, 
 /// ask; or it is too short, for one ask. Own.
 #[tactic(auto, using(crate::proofs::OneMeeting::one_meeting))]
 pub fn one_meeting()
-    ensures { (program : List NumProc) (main : ℕ) (config : Config) (history : List Event) (one other : Meeting)
-        → Meets program main config history one → Meets program main config history other → one ≡ other }
+    ensures { (program : NumProgram) (config : Config) (history : List Event) (one other : Meeting)
+        → Meets program config history one → Meets program config history other → one ≡ other }
 {}
 
 /// And one is so, but where the history gives a reply that does not fit the call that it answers. Own.
 pub fn some_meeting()
-    ensures { (program : List NumProc) (main : ℕ) (config : Config) (history : List Event)
-        → ((m : Meeting) × Meets program main config history m)
-        ⊎ ((k : ℕ) × Agree program main config history k × ((run_to program main config history k).outcome ≡ IsWrong)) }
+    ensures { (program : NumProgram) (config : Config) (history : List Event)
+        → ((m : Meeting) × Meets program config history m)
+        ⊎ ((k : ℕ) × Agree program config history k × ((run_to program config history k).outcome ≡ IsWrong)) }
 {}
 
 /// Two drains and the close are its whole record.
 pub fn whole_record()
-    ensures { Meets printing 0 usual whole Yes }
+    ensures { Meets printing usual whole Yes }
 {}
 
 /// A close stands where it drains a second time.
 pub fn closed_too_early()
-    ensures { Meets printing 0 usual closed_early (Stray 1 ask.Drain event.Close) }
+    ensures { Meets printing usual closed_early (Stray 1 ask.Drain event.Close) }
 {}
 
 /// The second drain is missing.
 pub fn cut_off()
-    ensures { Meets printing 0 usual cut (Short ask.Drain) }
+    ensures { Meets printing usual cut (Short ask.Drain) }
 {}

@@ -21,20 +21,26 @@ added (event.Submit id work helper) f =
     record f { handed = f.handed ++ record { id = id; work = work; helper = helper } ∷ []; submits = f.submits + 1 }
 added (event.Start thread id) f = record f { begun = f.begun ++ record { thread = thread; id = id } ∷ [] }
 added (event.Finish thread id outcome) f = record f { finished = f.finished ++ (id, outcome) ∷ [] }
-added (event.Drain ids) f = record f { drained = f.drained ++ ids }
+added (event.Request q asker n) f = f
+added (event.AskerEnd asker) f = f
+added (event.Drain ids requests) f = record f { drained = f.drained ++ ids }
+added (event.Answered q v) f = f
 added (event.HelperNew h answer) f = with_reserved h answer f
 added (event.HelperEnd h) f = record f { ended = f.ended ++ h ∷ [] }
 added event.Close f = record f { closed = true }
 
-map_last : {A B : Type 0} (g : A → Option B) (xs : List A) (x : A) (y : B) → g x ≡ Some y → filter_map g (xs ++ x ∷ []) ≡ filter_map g xs ++ y ∷ []
+pub map_last : {A B : Type 0} (g : A → Option B) (xs : List A) (x : A) (y : B) → g x ≡ Some y → filter_map g (xs ++ x ∷ []) ≡ filter_map g xs ++ y ∷ []
 map_last g xs x y e = filter_map-append g xs (x ∷ []) ∙ ap (λ o. filter_map g xs ++ cons_option o []) e
 
-map_kept : {A B : Type 0} (g : A → Option B) (xs : List A) (x : A) → g x ≡ None → filter_map g (xs ++ x ∷ []) ≡ filter_map g xs
+pub map_kept : {A B : Type 0} (g : A → Option B) (xs : List A) (x : A) → g x ≡ None → filter_map g (xs ++ x ∷ []) ≡ filter_map g xs
 map_kept g xs x e =
     filter_map-append g xs (x ∷ []) ∙ ap (λ o. filter_map g xs ++ cons_option o []) e ∙ append-nil (filter_map g xs)
 
+pub flat_last : {B : Type 0} (g : Event → List B) (xs : List Event) (x : Event) → flat_map g (xs ++ x ∷ []) ≡ flat_map g xs ++ g x
+flat_last g xs x = sym (flat_map_more g [] xs x)
+
 drained_last : (xs : List Event) (x : Event) → flat_map drained_in (xs ++ x ∷ []) ≡ flat_map drained_in xs ++ drained_in x
-drained_last xs x = sym (flat_map_more drained_in [] xs x)
+drained_last xs x = flat_last drained_in xs x
 
 drained_kept : (xs : List Event) (x : Event) → drained_in x ≡ [] → flat_map drained_in (xs ++ x ∷ []) ≡ flat_map drained_in xs
 drained_kept xs x e = drained_last xs x ∙ ap (λ ids. flat_map drained_in xs ++ ids) e ∙ append-nil (flat_map drained_in xs)
@@ -85,6 +91,13 @@ grown_answer xs h (Some t) =
     let x = event.HelperNew h (Some t) in
     same_facts _ _ (map_kept handed_in xs x refl) (map_kept begun_in xs x refl) (map_kept finished_in xs x refl) (drained_kept xs x refl) (map_last reserved_in xs x _ refl) (map_kept ended_in xs x refl) (count_kept is_submit xs x refl) (count_last is_helper_new xs x refl) (closed_kept xs x refl)
 
+-- an event of no work and no helper
+quiet : (xs : List Event) (x : Event) → handed_in x ≡ None → begun_in x ≡ None → finished_in x ≡ None → drained_in x ≡ [] → reserved_in x ≡ None → ended_in x ≡ None
+    → is_submit x ≡ false → is_helper_new x ≡ false → is_close x ≡ false → facts_of (xs ++ x ∷ []) ≡ facts_of xs
+quiet xs x a b c d e f g h k =
+    same_facts _ _ (map_kept handed_in xs x a) (map_kept begun_in xs x b) (map_kept finished_in xs x c) (drained_kept xs x d) (map_kept reserved_in xs x e) (map_kept ended_in xs x f)
+    (count_kept is_submit xs x g) (count_kept is_helper_new xs x h) (closed_kept xs x k)
+
 -- the facts of one more event
 pub grown : (xs : List Event) (e : Event) → facts_of (xs ++ e ∷ []) ≡ added e (facts_of xs)
 grown xs (event.Submit id work helper) =
@@ -96,8 +109,11 @@ grown xs (event.Start thread id) =
 grown xs (event.Finish thread id outcome) =
     let x = event.Finish thread id outcome in
     same_facts _ _ (map_kept handed_in xs x refl) (map_kept begun_in xs x refl) (map_last finished_in xs x _ refl) (drained_kept xs x refl) (map_kept reserved_in xs x refl) (map_kept ended_in xs x refl) (count_kept is_submit xs x refl) (count_kept is_helper_new xs x refl) (closed_kept xs x refl)
-grown xs (event.Drain ids) =
-    let x = event.Drain ids in
+grown xs (event.Request q asker n) = quiet xs (event.Request q asker n) refl refl refl refl refl refl refl refl refl
+grown xs (event.AskerEnd asker) = quiet xs (event.AskerEnd asker) refl refl refl refl refl refl refl refl refl
+grown xs (event.Answered q v) = quiet xs (event.Answered q v) refl refl refl refl refl refl refl refl refl
+grown xs (event.Drain ids requests) =
+    let x = event.Drain ids requests in
     same_facts _ _ (map_kept handed_in xs x refl) (map_kept begun_in xs x refl) (map_kept finished_in xs x refl) (drained_last xs x) (map_kept reserved_in xs x refl) (map_kept ended_in xs x refl) (count_kept is_submit xs x refl) (count_kept is_helper_new xs x refl) (closed_kept xs x refl)
 grown xs (event.HelperNew h answer) = grown_answer xs h answer
 grown xs (event.HelperEnd h) =

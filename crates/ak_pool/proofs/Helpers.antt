@@ -64,8 +64,8 @@ each_id P [] h = tt
 each_id P (x ∷ xs) h = (h.0, each_id P xs h.1)
 
 -- every finished work is fetched
-pub stands_fetched : (size : ℕ) (f : Facts) (s : DeskState) (ids : List ℕ) → Stands size f s → ids ≡ filter (λ id. not (is_among f.drained id)) (map (λ (x : ℕ × Outcome). x.0) f.finished) → Stands size (added (event.Drain ids) f) (fetched s)
-stands_fetched size f s ids st e =
+pub stands_fetched : (size : ℕ) (f : Facts) (s : DeskState) (ids requests : List ℕ) → Stands size f s → ids ≡ filter (λ id. not (is_among f.drained id)) (map (λ (x : ℕ × Outcome). x.0) f.finished) → Stands size (added (event.Drain ids requests) f) (fetched s)
+stands_fetched size f s ids requests st e =
     let owed = filter (λ id. not (is_among f.drained id)) (map (λ (x : ℕ × Outcome). x.0) f.finished) in
     let gone : filter (λ (x : ℕ × Outcome). not (is_among (f.drained ++ owed) x.0)) f.finished ≡ [] =
     filter_none (λ (x : ℕ × Outcome). not (is_among (f.drained ++ owed) x.0)) f.finished
@@ -237,11 +237,11 @@ stands_granted size f s t st exists idle free =
           omega (arith, general_put s.threads t y lt, before, after, st.general);
     }
 
-ended_apart : (ended : List ℕ) (h other : ℕ) → (h ≡ other → ⊥) → is_among (ended ++ h ∷ []) other ≡ is_among ended other
+pub ended_apart : (ended : List ℕ) (h other : ℕ) → (h ≡ other → ⊥) → is_among (ended ++ h ∷ []) other ≡ is_among ended other
 ended_apart ended h other ne =
     any_last (λ x. x == other) ended h ∙ ap (λ b. is_among ended other || (b || false)) (ne_eqb h other ne) ∙ or_not (is_among ended other)
 
-ended_now : (ended : List ℕ) (h : ℕ) → is_among (ended ++ h ∷ []) h ≡ true
+pub ended_now : (ended : List ℕ) (h : ℕ) → is_among (ended ++ h ∷ []) h ≡ true
 ended_now ended h =
     any_last (λ x. x == h) ended h ∙ ap (λ b. is_among ended h || (b || false)) (eq-eqb h h refl) ∙ or_yes (is_among ended h)
 

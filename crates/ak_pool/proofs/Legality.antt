@@ -14,7 +14,10 @@ use Rattle.ak_history.specs.Legal.{IsLegalAfter, IsServed, StartsFor, Starts, Ha
 use Rattle.ak_pool.specs.declared.task.Task.{Task}
 use Rattle.ak_pool.specs.Threads.{idle_thread, serves}
 use Rattle.ak_pool.specs.Desks.{DeskState, thread_at, next_by, next_of, is_served}
-use Rattle.ak_pool.specs.Judged.{Fits, Ends}
+use Rattle.ak_pool.specs.Askers.{RequestsState}
+use Rattle.ak_pool.specs.AskersStand.{AskersStand, request_facts}
+use Rattle.ak_pool.proofs.AskedRules.{next_number, free_idle, unfetched_is, answer_rule}
+use Rattle.ak_pool.specs.Judged.{FitsRequests, Fits, Ends}
 use Rattle.ak_pool.specs.Facts.{Facts, facts_of, has_begun, has_finished, work_in, thread_in, over_in, is_of, task_of, held_on, running_on, unbegun}
 use Rattle.ak_pool.specs.Stands.{Each, AreNumbered, Stands, IsGrantedOnce, IsQueueFor, IsTaskFor, reserved_list, begun_list}
 use Rattle.ak_pool.proofs.Items.{each_map, each_both, each_find, unfilter, all_each, filter_nil, some_same, some_found, find_passes, any_none, any_from_find}
@@ -275,11 +278,11 @@ ends_rule size f s t id outcome (Some task) st lt is h =
     (began f t task run, run.unfinished, subst (λ o. HasValue o outcome) (sym found) h.1)
 
 -- events that may not come after a close
-closed_not : (a : Bool) → (a && true) ≡ false → a ≡ false
+pub closed_not : (a : Bool) → (a && true) ≡ false → a ≡ false
 closed_not true e = absurd (cc)
 closed_not false e = refl
 
-not_closed : (a : Bool) → a ≡ false → (a && true) ≡ false
+pub not_closed : (a : Bool) → a ≡ false → (a && true) ≡ false
 not_closed a e = ap (λ b. b && true) e
 
 late_ok : (a : Bool) → (a && false) ≡ false
@@ -299,41 +302,56 @@ owed_is size f s st =
     ap (map (λ (x : ℕ × Outcome). x.0)) st.owed ∙ map_filter (λ id. not (is_among f.drained id)) f.finished
 
 -- a legal event fits
-pub legal_fits : (size : ℕ) (history : List Event) (s : DeskState) (e : Event) → Stands size (facts_of history) s → IsLegalAfter size history e → Fits s e
-legal_fits size history s (event.Submit id work helper) st h =
+pub legal_fits : (size askers : ℕ) (history : List Event) (s : DeskState) (e : Event) → Stands size (facts_of history) s → IsLegalAfter size askers history e → Fits s e
+legal_fits size askers history s (event.Submit id work helper) st h =
     (st.closed ∙ closed_not (list_any is_close history) h.open_or_late, h.rule.0 ∙ sym st.submits, served_from size history s helper st h.rule.1)
-legal_fits size history s (event.Start thread id) st h =
+legal_fits size askers history s (event.Start thread id) st h =
     let k = starts_next size (facts_of history) s thread id st (starts_from size history thread id (work_at history id) h.rule) in
     (st.closed ∙ closed_not (list_any is_close history) h.open_or_late, k.0, k.1, k.2)
-legal_fits size history s (event.Finish thread id outcome) st h =
+legal_fits size askers history s (event.Finish thread id outcome) st h =
     ends_of size (facts_of history) s thread id outcome st h.rule.0 h.rule.1 h.rule.2
-legal_fits size history s (event.Drain ids) st h =
-    (st.closed ∙ closed_not (list_any is_close history) h.open_or_late, h.rule ∙ sym (owed_is size (facts_of history) s st))
-legal_fits size history s (event.HelperNew asked answer) st h =
+legal_fits size askers history s (event.Request q a n) st h = st.closed ∙ closed_not (list_any is_close history) h.open_or_late
+legal_fits size askers history s (event.AskerEnd a) st h = st.closed ∙ closed_not (list_any is_close history) h.open_or_late
+legal_fits size askers history s (event.Answered q v) st h = st.closed ∙ closed_not (list_any is_close history) h.open_or_late
+legal_fits size askers history s (event.Drain ids requests) st h =
+    (st.closed ∙ closed_not (list_any is_close history) h.open_or_late, h.rule.0 ∙ sym (owed_is size (facts_of history) s st))
+legal_fits size askers history s (event.HelperNew asked answer) st h =
     (st.closed ∙ closed_not (list_any is_close history) h.open_or_late, h.rule.0 ∙ sym st.helpers, h.rule.1 ∙ answer_is size (facts_of history) s st)
-legal_fits size history s (event.HelperEnd helper) st h =
+legal_fits size askers history s (event.HelperEnd helper) st h =
     (st.closed ∙ closed_not (list_any is_close history) h.open_or_late, active_served size (facts_of history) s helper st h.rule)
-legal_fits size history s event.Close st h = st.closed ∙ closed_not (list_any is_close history) h.open_or_late
+legal_fits size askers history s event.Close st h = st.closed ∙ closed_not (list_any is_close history) h.open_or_late
 
 pub task_next : (o : Option Task) (id : ℕ) → option_map (λ (task : Task). task.id) o ≡ Some id → (task : Task) × (o ≡ Some task) × (task.id ≡ id)
 task_next None id e = absurd (cc)
 task_next (Some task) id e = (task, refl, some_same task.id id e)
 
--- an event that fits is legal
-pub fits_legal : (size : ℕ) (history : List Event) (s : DeskState) (e : Event) → Stands size (facts_of history) s → Fits s e → IsLegalAfter size history e
-fits_legal size history s (event.Submit id work helper) st h =
-    record { open_or_late = not_closed (list_any is_close history) (sym st.closed ∙ h.0); rule = (h.1 ∙ st.submits, served_to size history s helper st h.2) }
-fits_legal size history s (event.Start thread id) st h =
+-- a start that fits is one that may be
+pub fits_starts : (size : ℕ) (history : List Event) (s : DeskState) (thread id : ℕ) → Stands size (facts_of history) s → Fits s (event.Start thread id) → Starts size history thread id (work_at history id)
+fits_starts size history s thread id st h =
     let k = task_next (next_of s thread) id h.3 in
-    let starts = starts_to size history thread k.0.id (work_at history k.0.id) (next_starts size (facts_of history) s thread k.0 st (omega (arith, h.1, st.size)) h.2 k.1) in
-    record { open_or_late = not_closed (list_any is_close history) (sym st.closed ∙ h.0); rule = subst (λ n. Starts size history thread n (work_at history n)) k.2 starts }
-fits_legal size history s (event.Finish thread id outcome) st h =
+    subst (λ n. Starts size history thread n (work_at history n)) k.2
+    (starts_to size history thread k.0.id (work_at history k.0.id) (next_starts size (facts_of history) s thread k.0 st (omega (arith, h.1, st.size)) h.2 k.1))
+
+-- an event that fits is legal
+pub fits_legal : (size askers : ℕ) (history : List Event) (s : DeskState) (r : RequestsState) (e : Event) → Stands size (facts_of history) s → AskersStand askers (request_facts history) r
+    → Fits s e → FitsRequests r e → IsLegalAfter size askers history e
+fits_legal size askers history s r (event.Submit id work helper) st asked h k =
+    record { open_or_late = not_closed (list_any is_close history) (sym st.closed ∙ h.0); rule = (h.1 ∙ st.submits, served_to size history s helper st h.2) }
+fits_legal size askers history s r (event.Start thread id) st asked h k =
+    record { open_or_late = not_closed (list_any is_close history) (sym st.closed ∙ h.0); rule = fits_starts size history s thread id st h }
+fits_legal size askers history s r (event.Finish thread id outcome) st asked h k =
     record { open_or_late = late_ok (list_any is_close history); rule = ends_rule size (facts_of history) s thread id outcome (thread_at s thread).running st (omega (arith, h.0, st.size)) refl h.1 }
-fits_legal size history s (event.Drain ids) st h =
-    record { open_or_late = not_closed (list_any is_close history) (sym st.closed ∙ h.0); rule = h.1 ∙ owed_is size (facts_of history) s st }
-fits_legal size history s (event.HelperNew asked answer) st h =
+fits_legal size askers history s r (event.Request q a n) st asked h k =
+    record { open_or_late = not_closed (list_any is_close history) (sym st.closed ∙ h); rule = (k.0 ∙ next_number askers history r asked, free_idle askers history r a asked k.1) }
+fits_legal size askers history s r (event.AskerEnd a) st asked h k =
+    record { open_or_late = not_closed (list_any is_close history) (sym st.closed ∙ h); rule = free_idle askers history r a asked k }
+fits_legal size askers history s r (event.Drain ids requests) st asked h k =
+    record { open_or_late = not_closed (list_any is_close history) (sym st.closed ∙ h.0); rule = (h.1 ∙ owed_is size (facts_of history) s st, k ∙ unfetched_is askers history r asked) }
+fits_legal size askers history s r (event.Answered q v) st asked h k =
+    record { open_or_late = not_closed (list_any is_close history) (sym st.closed ∙ h); rule = answer_rule askers history r q asked k }
+fits_legal size askers history s r (event.HelperNew no' answer) st asked h k =
     record { open_or_late = not_closed (list_any is_close history) (sym st.closed ∙ h.0); rule = (h.1 ∙ st.helpers, h.2 ∙ sym (answer_is size (facts_of history) s st)) }
-fits_legal size history s (event.HelperEnd helper) st h =
+fits_legal size askers history s r (event.HelperEnd helper) st asked h k =
     record { open_or_late = not_closed (list_any is_close history) (sym st.closed ∙ h.0); rule = served_active size (facts_of history) s helper st h.1 }
-fits_legal size history s event.Close st h =
+fits_legal size askers history s r event.Close st asked h k =
     record { open_or_late = not_closed (list_any is_close history) (sym st.closed ∙ h); rule = tt }

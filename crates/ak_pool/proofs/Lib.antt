@@ -9,6 +9,9 @@ pub mod Overs
 pub mod Finishes
 pub mod Helpers
 pub mod Judging
+pub mod Ranges
+pub mod Askers
+pub mod AskedRules
 pub mod Legality
 pub mod Noting
 pub mod Pools

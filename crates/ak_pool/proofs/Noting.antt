@@ -77,7 +77,10 @@ next_facts size f s (event.Submit id work helper) st h = submit_next size f s id
 next_facts size f s (event.Start thread id) st h = start_next size f s thread id st h
 next_facts size f s (event.Finish thread id outcome) st h =
     finish_by size f s thread id outcome (thread_at s thread).running st (omega (arith, h.0, st.size)) refl h.1
-next_facts size f s (event.Drain ids) st h = stands_fetched size f s ids st (h.1 ∙ owed_is size f s st)
+next_facts size f s (event.Request q a n) st h = st
+next_facts size f s (event.AskerEnd a) st h = st
+next_facts size f s (event.Drain ids requests) st h = stands_fetched size f s ids requests st (h.1 ∙ owed_is size f s st)
+next_facts size f s (event.Answered q v) st h = st
 next_facts size f s (event.HelperNew asked answer) st h =
     subst (λ n. Stands size (added (event.HelperNew n answer) f) (answered answer s)) (sym h.1) (answer_next size f s answer st h.2)
 next_facts size f s (event.HelperEnd helper) st h = end_at size f s helper (position (serves helper) s.threads) st refl h.1
@@ -89,5 +92,5 @@ stands_next size history s e st h =
     (next_facts size (facts_of history) s e st h)
 
 -- a legal history with one more legal event
-pub legal_next : (size : ℕ) (history : List Event) (e : Event) → Legal size history → IsLegalAfter size history e → Legal size (history ++ e ∷ [])
-legal_next size history e legal is = AreLegalAfter-append size [] history e legal is
+pub legal_next : (size askers : ℕ) (history : List Event) (e : Event) → Legal size askers history → IsLegalAfter size askers history e → Legal size askers (history ++ e ∷ [])
+legal_next size askers history e legal is = AreLegalAfter-append size askers [] history e legal is

@@ -1,3 +1,5 @@
+pub mod Askers
+pub mod AskersStand
 pub mod Desks
 pub mod Facts
 pub mod Judged

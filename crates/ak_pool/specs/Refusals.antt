@@ -6,6 +6,6 @@ use Rattle.ak_pool.specs.declared.check.CheckRefused.TheVariants.{Illegal, NoMem
 use Rattle.ak_pool.specs.Pools.{IsFirstIllegal}
 
 -- the first event that is not legal is named; want of memory says nothing
-abbrev pub IsRefused : ℕ → List Event → CheckRefused → Type 0
-IsRefused threads history (Illegal place) = IsFirstIllegal threads history place
-IsRefused threads history NoMemory = Unit {0}
+abbrev pub IsRefused : ℕ → ℕ → List Event → CheckRefused → Type 0
+IsRefused threads askers history (Illegal place) = IsFirstIllegal threads askers history place
+IsRefused threads askers history NoMemory = Unit {0}

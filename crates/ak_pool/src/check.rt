@@ -3,14 +3,16 @@
 ghost use Rattle.std.specs.Prelude.{◌≡◌, ◌<◌, ◌-◌, ◌^◌, length, map, None, OnOk, IfErr, MatchBool};
 ghost use Rattle.ak_history.specs.Legal.{Legal};
 ghost use Rattle.ak_pool.specs.Desks.{thread_at, next_of, begun_by};
-ghost use Rattle.ak_pool.specs.Judged.{Fits, FitsSubmit, FitsStart, FitsFinish, FitsDrain, FitsHelper, FitsEnd, noted};
+ghost use Rattle.ak_pool.specs.Askers.{IsFree, AreTied};
+ghost use Rattle.ak_pool.specs.Judged.{Fits, FitsRequests, FitsSubmit, FitsStart, FitsFinish, FitsDrain, FitsHelper, FitsEnd, noted, requests_noted};
 ghost use Rattle.ak_pool.specs.Refusals.{IsRefused};
 
 use crate::desk::Desk;
 use crate::pool::Pool;
+use crate::requests::{Made, Requests};
 use ak_base::list::NoMemory;
-use ak_base::number::{HelperNo, ThreadNo, WorkNo};
-use ak_history::event::{Event, History, Ids};
+use ak_base::number::{AskerNo, HelperNo, RequestNo, ThreadNo, WorkNo};
+use ak_history::event::{Event, History, Ids, RequestIds};
 use ak_labor::labor::{Labor, Plain};
 use ak_labor::work::Outcome;
 use std::alloc::{AllocError, Global};
@@ -36,32 +38,47 @@ impl From<AllocError> for CheckRefused {
 }
 
 impl Pool {
-    /// Tests whether a history of fewer than 4,294,967,295 events is legal for so many threads. It looks at each event
-    /// once, and computes the value of each work that is finished.
+    /// Tests whether a history of fewer than 4,294,967,295 events is legal for so many threads and askers. It looks at each
+    /// event once, and computes the value of each work that is finished.
     ///
     /// # Errors
     ///
     /// `Illegal`, exactly at the first event that is not legal after those before it; `NoMemory`.
-    pub fn check(alloc: Global, history: &History, threads: u32) -> Result<(), CheckRefused>
+    pub fn check(
+        alloc: Global,
+        history: &History,
+        threads: u32,
+        askers: u32,
+    ) -> Result<(), CheckRefused>
         requires { length history.now < 2 ^ 32 - 1 }
-        ensures legal { OnOk result (Legal threads history.now) }
-        ensures refused { IfErr result (IsRefused threads history.now) }
+        ensures legal { OnOk result (Legal threads askers history.now) }
+        ensures refused { IfErr result (IsRefused threads askers history.now) }
     {
         let mut desk = Desk::make(alloc, threads)?;
+        let mut requests = Requests::make(alloc, askers)?;
         for (place, event) in history.as_slice().iter().enumerate() {
-            if !fits(&desk, event) {
+            if !fits(&desk, &requests, event) {
                 return Err(CheckRefused::Illegal {
                     place: place as u32,
                 });
             }
             note(&mut desk, event)?;
+            note_request(&mut requests, event)?;
         }
         Ok(())
     }
 }
 
 // Whether the event is legal next.
-fn fits(desk: &Desk, event: &Event) -> bool
+fn fits(desk: &Desk, requests: &Requests, event: &Event) -> bool
+    ensures { MatchBool result (Fits desk.now event.now × FitsRequests requests.now event.now)
+        (Fits desk.now event.now × FitsRequests requests.now event.now → ⊥) }
+{
+    fits_desk(desk, event) && fits_requests(requests, event)
+}
+
+// Whether the event is legal next, by the desk.
+fn fits_desk(desk: &Desk, event: &Event) -> bool
     ensures { MatchBool result (Fits desk.now event.now) (Fits desk.now event.now → ⊥) }
 {
     match event {
@@ -76,11 +93,53 @@ fn fits(desk: &Desk, event: &Event) -> bool
             id,
             outcome,
         } => fits_finish(desk, *thread, *id, *outcome),
-        Event::Drain { ids } => fits_drain(desk, ids),
+        Event::Request { .. } | Event::AskerEnd { .. } | Event::Answered { .. } => {
+            !desk.is_closed()
+        }
+        Event::Drain { ids, requests: _ } => fits_drain(desk, ids),
         Event::HelperNew { no, answer } => fits_helper(desk, *no, answer),
         Event::HelperEnd { no } => fits_end(desk, *no),
         Event::Close => !desk.is_closed(),
     }
+}
+
+// Whether the event is legal next, by the requests.
+fn fits_requests(requests: &Requests, event: &Event) -> bool
+    ensures { MatchBool result (FitsRequests requests.now event.now) (FitsRequests requests.now event.now → ⊥) }
+{
+    match event {
+        Event::Request { no, asker, num: _ } => fits_request(requests, *no, *asker),
+        Event::AskerEnd { asker } => requests.is_free(*asker),
+        Event::Drain {
+            ids: _,
+            requests: ids,
+        } => are_requests(ids.as_slice(), requests.unfetched()),
+        Event::Answered { no, num: _ } => requests.is_unanswered(*no),
+        _ => true,
+    }
+}
+
+// Whether the asker may make a request next under the number.
+fn fits_request(requests: &Requests, no: RequestNo, asker: AskerNo) -> bool
+    ensures { MatchBool result ((no ≡ length requests.now.made) × IsFree requests.now asker)
+        ((no ≡ length requests.now.made) × IsFree requests.now asker → ⊥) }
+{
+    no.number() == requests.made() as u64 && requests.is_free(asker)
+}
+
+// Whether these are the numbers of the requests, in order.
+fn are_requests(ids: &[RequestNo], made: &[Made]) -> bool
+    ensures { MatchBool result (ids.now ≡ map (λ r. r.no) made.now) (ids.now ≡ map (λ r. r.no) made.now → ⊥) }
+{
+    if ids.len() != made.len() {
+        return false;
+    }
+    for k in 0..ids.len() {
+        if ids[k].number() != made[k].no.number() {
+            return false;
+        }
+    }
+    true
 }
 
 // Whether a work may be handed in next under the number, for the helper if one is named.
@@ -198,10 +257,29 @@ fn note(desk: &mut Desk, event: &Event) -> Result<(), NoMemory>
             id,
             outcome,
         } => desk.finish(thread.number() as usize, *id, *outcome),
-        Event::Drain { ids: _ } => desk.fetch(),
+        Event::Request { .. } | Event::AskerEnd { .. } | Event::Answered { .. } => (),
+        Event::Drain { .. } => desk.fetch(),
         Event::HelperNew { no: _, answer } => desk.note_helper(answer),
         Event::HelperEnd { no } => desk.end_helper(*no),
         Event::Close => desk.close(),
+    }
+    Ok(())
+}
+
+// The requests after an event that is legal.
+fn note_request(requests: &mut Requests, event: &Event) -> Result<(), NoMemory>
+    requires fits { FitsRequests requests.old event.now }
+    requires tied { AreTied requests.old }
+    ensures { OnOk result (requests.new ≡ requests_noted event.now requests.old) }
+{
+    match event {
+        Event::Request { no: _, asker, num } => {
+            let _no = requests.request(*asker, *num)?;
+        }
+        Event::AskerEnd { asker } => requests.end(*asker),
+        Event::Drain { .. } => requests.fetch(),
+        Event::Answered { no, num } => requests.answer(*no, *num),
+        _ => (),
     }
     Ok(())
 }

@@ -1,6 +1,6 @@
 //! What a pool keeps beside its history.
 
-ghost use Rattle.std.specs.Prelude.{◌≡◌, ◌<◌, ◌+◌, ◌-◌, ◌^◌, Some, None, OnOk, OnErr, IfOk, IfSome, length, map, count_by, true, is_some, if◌then◌else◌};
+ghost use Rattle.std.specs.Prelude.{◌≡◌, ◌<◌, ◌+◌, ◌-◌, ◌^◌, ◌++◌, Some, None, OnOk, OnErr, IfOk, IfSome, length, map, count_by, true, is_some, if◌then◌else◌};
 ghost use Rattle.ak_base.specs.Lists.{first_of};
 ghost use Rattle.std.specs.List.{position};
 ghost use Rattle.ak_pool.specs.Threads.{serves, is_idle, is_taken, runs_general};
@@ -197,11 +197,10 @@ impl Desk {
         Ok(Items::from_vec(ids))
     }
 
-    /// Copies the finished works that were not fetched.
+    /// Puts the finished works that were not fetched behind those of `into`.
     pub fn copy_owed(&self, into: &mut Arrivals) -> Result<(), NoMemory>
-        ensures { OnOk result (into.new ≡ self.now.owed) }
+        ensures { OnOk result (into.new ≡ record into.old { works = into.old.works ++ self.now.owed }) }
     {
-        into.clear();
         for pair in self.owed.as_slice() {
             into.push(*pair)?;
         }

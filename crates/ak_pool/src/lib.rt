@@ -5,5 +5,6 @@
 pub mod check;
 mod desk;
 pub mod pool;
+mod requests;
 pub mod task;
 mod thread;

@@ -1,12 +1,12 @@
 //! Pieces of a line.
 
-ghost use Rattle.std.specs.Prelude.{◌≡◌, ◌≤◌, ◌++◌, [], OnOk, OnErr};
-ghost use Rattle.ak_base.specs.Streams.{Rose, TookBeginning, Passes};
+ghost use Rattle.std.specs.Prelude.{◌≡◌};
+ghost use Rattle.ak_base.specs.Streams.{HasPut};
 ghost use Rattle.ak_print.specs.Piece.{piece_bytes, pieces_bytes};
 ghost use Rattle.ak_print.specs.Work.{kind_word};
 
 use ak_base::buffer::Buffer;
-use ak_base::number::{JobNo, No};
+use ak_base::number::{JobNo, No, RequestNo};
 use ak_base::sink::{Sink, WriteFailed};
 use ak_labor::work::WorkKind;
 use ak_text::decimal::{write_num, write_u64};
@@ -34,6 +34,13 @@ impl Piece {
         Piece::Count(job.number())
     }
 
+    /// The number of a request.
+    pub fn request(no: RequestNo) -> Piece
+        ensures { result ≡ Piece.Count no }
+    {
+        Piece::Count(no.number())
+    }
+
     /// The word of a kind of works.
     pub fn kind(kind: WorkKind) -> Piece
         ensures { piece_bytes result ≡ kind_word kind }
@@ -51,13 +58,9 @@ impl Piece {
     ///
     /// `WriteFailed`, as `Buffer::put`.
     pub fn put<K: Sink>(self, buffer: &mut Buffer, sink: &mut K) -> Result<(), WriteFailed>
-        ensures passes { OnOk result
-            (Passes (K.taken sink.old) (K.taken sink.new) buffer.old buffer.new (piece_bytes self)) }
-        ensures begins { OnErr result
-            (TookBeginning (K.taken sink.old) (K.taken sink.new) (buffer.old ++ piece_bytes self)) }
-        ensures lost { OnErr result (buffer.new ≡ []) }
-        ensures never_falls { K.faults sink.old ≤ K.faults sink.new }
-        ensures cause { OnErr result (Rose (K.faults sink.old) (K.faults sink.new)) }
+        ensures { HasPut result
+            (K.taken sink.old) (K.taken sink.new) (K.faults sink.old) (K.faults sink.new)
+            buffer.old buffer.new (piece_bytes self) }
     {
         let mut digits = [0; 20];
         match self {
@@ -90,13 +93,9 @@ pub fn put_pieces<K: Sink>(
     buffer: &mut Buffer,
     sink: &mut K,
 ) -> Result<(), WriteFailed>
-    ensures passes { OnOk result
-        (Passes (K.taken sink.old) (K.taken sink.new) buffer.old buffer.new (pieces_bytes pieces.now)) }
-    ensures begins { OnErr result
-        (TookBeginning (K.taken sink.old) (K.taken sink.new) (buffer.old ++ pieces_bytes pieces.now)) }
-    ensures lost { OnErr result (buffer.new ≡ []) }
-    ensures never_falls { K.faults sink.old ≤ K.faults sink.new }
-    ensures cause { OnErr result (Rose (K.faults sink.old) (K.faults sink.new)) }
+    ensures { HasPut result
+        (K.taken sink.old) (K.taken sink.new) (K.faults sink.old) (K.faults sink.new)
+        buffer.old buffer.new (pieces_bytes pieces.now) }
 {
     for piece in pieces {
         piece.put(buffer, sink)?;

@@ -1,7 +1,9 @@
--- Valid programs: each local is below the number of locals so far, of a kind that serves, and each call fits.
+-- Valid programs: each local is below the number of locals so far, of a kind that serves, and each call fits. What the grammar
+-- says holds too: no prefix stands before a statement that binds, and lists and numbers lie in their ranges.
 use Rattle.std.specs.Prelude.{◌≡◌, ℕ, ◌≤◌, Option, Some, None, List, [], ◌∷◌, ◌++◌, map, length, take, drop, slice_get, MatchOption}
 use Rattle.std.specs.List.{AllByRecursion, AllZip, Any as AnyOf, range_with_len}
 use Rattle.ak_script.specs.Kinds.{Serves}
+use Rattle.ak_script.specs.Statements.{IsOneToEight, IsThrottleBound, IsPipeBound}
 use Rattle.ak_script.specs.declared.script.Kind.{Kind}
 use Rattle.ak_script.specs.declared.script.Kind.TheVariants as of_kind
 use Rattle.ak_program.specs.declared.program.NumPrefix.{NumPrefix}
@@ -14,10 +16,11 @@ use Rattle.ak_program.specs.declared.statement.NumAtom.TheVariants.{Literal, Loc
 use Rattle.ak_program.specs.declared.statement.NumStmt.{NumStmt}
 use Rattle.ak_program.specs.declared.statement.NumStmt.TheVariants.{Set, Print, Ivar, Fill, Offer, Upon, Bind, All, Any, Choose, Sched, Low, Yield, Never, After, Event, Abort, Tick, Monitor, Within, Detach, OnError, NextError, Raise, Send, Try, Throttle, Enqueue, ThrottleDone, Pipe, Write, Put, Read, Close, CloseRead, Flushed, Work, Helper, HelperWork, HelperDone, Ret}
 
--- a program: its procedures, and the place of `main`
+-- a program: its procedures, the place of `main`, and that of `ask` where it serves requests
 pub record NumProgram : Type 0 where
   pub procs : List NumProc
   pub main : ℕ
+  pub ask : Option ℕ
 
 -- a local that is used, and the kinds that serve there
 pub record NumUse : Type 0 where
@@ -151,6 +154,24 @@ prefix_uses None = []
 prefix_uses (Some (If a)) = number a
 prefix_uses (Some (Unless a)) = number a
 
+-- a statement may stand behind a prefix where it binds no local
+abbrev pub MayHavePrefix : Option NumPrefix → NumStmt → Type 0
+MayHavePrefix None stmt = Unit {0}
+MayHavePrefix (Some prefix) stmt = num_binds stmt ≡ []
+
+-- one to 8 deferreds stand in a list of deferreds, and the numbers lie in their ranges
+abbrev pub IsWithin : NumStmt → Type 0
+IsWithin (All r deferreds proc args) = IsOneToEight (length deferreds)
+IsWithin (Any r deferreds) = IsOneToEight (length deferreds)
+IsWithin (Choose r choices args) = IsOneToEight (length choices)
+IsWithin (Throttle t k stop) = IsThrottleBound k
+IsWithin (Pipe p b) = IsPipeBound b
+IsWithin _ = Unit {0}
+
+-- at most 8 arguments stand in a call
+abbrev pub HasFewArgs : NumCallee → Type 0
+HasFewArgs callee = length callee.args ≤ 8
+
 -- the locals are those at the next places
 abbrev pub AreNext : ℕ → List NumParam → Type 0
 AreNext next params = map (λ param. param.name) params ≡ range_with_len next (length params)
@@ -161,6 +182,9 @@ pub record StatementIsSound (procs : List NumProc) (kinds : List Kind) (statemen
   pub uses : AllByRecursion (IsKnown kinds) (num_uses statement.stmt)
   pub calls : AllByRecursion (IsCallable procs kinds) (num_callees statement.stmt)
   pub binds : AreNext (length kinds) (num_binds statement.stmt)
+  pub alone : MayHavePrefix statement.prefix statement.stmt
+  pub within : IsWithin statement.stmt
+  pub few : AllByRecursion HasFewArgs (num_callees statement.stmt)
 
 -- each line uses what the lines before it bind
 abbrev pub LinesAreSound : List NumProc → List Kind → List NumStatement → Type 0
@@ -172,8 +196,19 @@ pub record ProcIsSound (procs : List NumProc) (proc : NumProc) : Type 0 where
   pub params : AreNext 0 proc.params
   pub lines : LinesAreSound procs (map (λ param. param.kind) proc.params) proc.body
 
--- `main` is there and has no parameters, each procedure stands at its own place, and all their lines are sound
-pub record ProgramIsSound (procs : List NumProc) (main : ℕ) : Type 0 where
+-- a procedure has one parameter, which is a number
+abbrev pub TakesOneNumber : NumProc → Type 0
+TakesOneNumber proc = map (λ param. param.kind) proc.params ≡ of_kind.Num ∷ []
+
+-- where `ask` has a place, it is there and takes one number
+abbrev pub IsAsk : List NumProc → Option ℕ → Type 0
+IsAsk procs None = Unit {0}
+IsAsk procs (Some ask) = MatchOption (slice_get procs ask) ⊥ TakesOneNumber
+
+-- `main` is there and has no parameters, `ask` takes one number where it is there, each procedure stands at its own place, and
+-- all their lines are sound
+pub record ProgramIsSound (procs : List NumProc) (main : ℕ) (ask : Option ℕ) : Type 0 where
   pub begins : MatchOption (slice_get procs main) ⊥ (λ proc. proc.params ≡ [])
+  pub serves : IsAsk procs ask
   pub places : map (λ proc. proc.name) procs ≡ range_with_len 0 (length procs)
   pub each : AllByRecursion (ProcIsSound procs) procs

@@ -1,6 +1,6 @@
 //! Procedures and programs.
 
-ghost use Rattle.std.specs.Prelude.{◌≡◌, slice_get};
+ghost use Rattle.std.specs.Prelude.{◌≡◌, slice_get, is_some};
 ghost use Rattle.std.specs.Option.{option_copied};
 ghost use Rattle.ak_program.specs.Programs.{ProgramIsSound};
 
@@ -41,11 +41,12 @@ pub struct NumProc {
     pub body: Items<NumStatement>,
 }
 
-/// A valid program: each name is a number, and every use fits.
+/// A valid program: each name is a number, every use fits, and each statement has the form of the grammar.
 #[derive(Debug, Drop)]
 pub struct Program {
     procs: Items<NumProc>,
     main: usize,
+    ask: Option<usize>,
 }
 
 impl Model for Program {
@@ -53,23 +54,25 @@ impl Model for Program {
 
     ghost Value = { NumProgram };
 
-    ghost view = { λ p. record { procs = p.procs; main = p.main } };
+    ghost view = { λ p. record { procs = p.procs; main = p.main; ask = p.ask } };
 
-    ghost invariant = { λ p. ProgramIsSound p.procs p.main };
+    ghost invariant = { λ p. ProgramIsSound p.procs p.main p.ask };
 }
 
 impl Program {
-    pub fn new(procs: Items<NumProc>, main: usize) -> Program
-        requires { ProgramIsSound procs main }
-        ensures { result ≡ record { procs = procs; main = main } }
+    /// The program of these procedures: the place of `main`, and that of `ask` where it serves requests from outside. It takes no
+    /// memory.
+    pub fn new(procs: Items<NumProc>, main: usize, ask: Option<usize>) -> Program
+        requires { ProgramIsSound procs main ask }
+        ensures { result ≡ record { procs = procs; main = main; ask = ask } }
     {
-        Program { procs, main }
+        Program { procs, main, ask }
     }
 
     /// Lends the `k`-th procedure from 0: `None` exactly past the last.
     pub fn proc(&self, k: usize) -> Option<&NumProc>
         ensures value { option_copied result ≡ slice_get self.now.procs k }
-        ensures sound { ProgramIsSound self.now.procs self.now.main }
+        ensures sound { ProgramIsSound self.now.procs self.now.main self.now.ask }
     {
         self.procs.get(k)
     }
@@ -81,10 +84,25 @@ impl Program {
         self.procs.as_slice()
     }
 
+    /// Whether it serves requests from outside: a procedure `ask` stands there, and has one parameter, which is a number.
+    pub fn has_ask(&self) -> bool
+        ensures { result ≡ is_some self.now.ask }
+    {
+        self.ask.is_some()
+    }
+
+    /// The number of the procedure that serves requests from outside: `None` exactly where `has_ask` is false.
+    pub fn ask(&self) -> Option<usize>
+        ensures value { result ≡ self.now.ask }
+        ensures sound { ProgramIsSound self.now.procs self.now.main self.now.ask }
+    {
+        self.ask
+    }
+
     /// The number of `main`.
     pub fn main(&self) -> usize
         ensures value { result ≡ self.now.main }
-        ensures sound { ProgramIsSound self.now.procs self.now.main }
+        ensures sound { ProgramIsSound self.now.procs self.now.main self.now.ask }
     {
         self.main
     }

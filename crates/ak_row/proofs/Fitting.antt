@@ -1,9 +1,8 @@
 -- Lines that fit things one for one, and the first bad line.
 use Rattle.std.proofs.Common.{◌≡◌, ℕ, true, false, List, [], ◌∷◌, ◌++◌, map, refl, sym, ap, ◌∙◌, subst, append_assoc, ◌⊎◌, inl, inr}
 use Rattle.std.specs.List.{AllZip, filter}
-use Rattle.ak_text.specs.Lines.{TextLine}
+use Rattle.ak_text.specs.Lines.{TextLine, counts}
 use Rattle.ak_row.specs.Faults.{IsFirstBad}
-use Rattle.ak_row.specs.Places.{counts}
 
 -- a line fits one thing at the most
 abbrev pub FitsOne : {A : Type 0} → (A → TextLine → Type 0) → Type 0

@@ -2,8 +2,9 @@
 use Rattle.std.proofs.Common.{◌≡◌, ℕ, ◌<◌, ◌≤◌, ◌^◌, ◌-◌, Bool, true, false, ◌&&◌, nat_le, nat_lt, cond, Option, Some, None, MatchOption, IfSome, List, length, ℤ, pos, negsuc, FitsSigned, w64, refl, sym, ap, ◌∙◌, arith}
 use Rattle.std.proofs.lemmas.Int.{ints}
 use Rattle.std.specs.List.{list_all}
+use Rattle.ak_base.specs.Numbers.{fits}
 use Rattle.ak_text.specs.Numbers.{Writes, is_digit, without_minus, signed_value}
-use Rattle.ak_row.specs.Parts.{◌>>=◌, written, within, thing_of, job_of, count_of, fits_i64, signed_within, signed_of}
+use Rattle.ak_row.specs.Parts.{◌>>=◌, written, within, thing_of, long_of, count_of, signed_within, signed_of}
 
 -- ---- of any size
 abbrev is_number : List ℕ → Bool
@@ -62,44 +63,44 @@ narrower least most low high p q (Some (pos n)) = of (nat_le least n && nat_le n
 narrower least most low high p q (Some (negsuc n)) = refl
 narrower least most low high p q None = refl
 
-pub thing_by_job : (word : List ℕ) → thing_of word ≡ (job_of word >>= again 0 (2 ^ 32 - 1))
-unfolding thing_of job_of
-thing_by_job word = narrower 0 (2 ^ 64 - 1) 0 (2 ^ 32 - 1) (omega arith) (omega arith) (written word)
+pub thing_by_long : (word : List ℕ) → thing_of word ≡ (long_of word >>= again 0 (2 ^ 32 - 1))
+unfolding thing_of long_of
+thing_by_long word = narrower 0 (2 ^ 64 - 1) 0 (2 ^ 32 - 1) (omega arith) (omega arith) (written word)
 
 pub count_by_thing : (word : List ℕ) → count_of word ≡ (thing_of word >>= again 1 1000000)
 unfolding thing_of count_of
 count_by_thing word = narrower 0 (2 ^ 32 - 1) 1 1000000 (omega arith) (omega arith) (written word)
 
 -- ---- numbers of jobs, as `read_u64` reads them
-pub job_reads : (word : List ℕ) (n : ℕ) → job_of word ≡ Some n → (n < 2 ^ 64) × Writes word (pos n)
-unfolding job_of
-job_reads word n h = let r = within_reads 0 (2 ^ 64 - 1) (written word) n h in (omega (arith, r.2), written_reads word (pos n) r.0)
+pub long_reads : (word : List ℕ) (n : ℕ) → long_of word ≡ Some n → (n < 2 ^ 64) × Writes word (pos n)
+unfolding long_of
+long_reads word n h = let r = within_reads 0 (2 ^ 64 - 1) (written word) n h in (omega (arith, r.2), written_reads word (pos n) r.0)
 
-pub job_some : (word : List ℕ) (n : ℕ) → n < 2 ^ 64 → Writes word (pos n) → job_of word ≡ Some n
-unfolding job_of
-job_some word n small w = within_is 0 (2 ^ 64 - 1) (written word) n (written_is word (pos n) w) (omega arith) (omega arith)
+pub long_some : (word : List ℕ) (n : ℕ) → n < 2 ^ 64 → Writes word (pos n) → long_of word ≡ Some n
+unfolding long_of
+long_some word n small w = within_is 0 (2 ^ 64 - 1) (written word) n (written_is word (pos n) w) (omega arith) (omega arith)
 
-pub job_is : (word : List ℕ) (o : Option ℕ) → MatchOption o ((n : ℕ) → n < 2 ^ 64 → Writes word (pos n) → ⊥) (λ n. Writes word (pos n)) → IfSome o (λ n. n < 2 ^ 64) → o ≡ job_of word
-job_is word None h fits = of (job_of word) refl
+pub long_is : (word : List ℕ) (o : Option ℕ) → MatchOption o ((n : ℕ) → n < 2 ^ 64 → Writes word (pos n) → ⊥) (λ n. Writes word (pos n)) → IfSome o (λ n. n < 2 ^ 64) → o ≡ long_of word
+long_is word None h fits = of (long_of word) refl
   where
-    of : (o : Option ℕ) → job_of word ≡ o → None ≡ o
+    of : (o : Option ℕ) → long_of word ≡ o → None ≡ o
     of None e = refl
-    of (Some n) e = let r = job_reads word n e in absurd (h n r.0 r.1)
-job_is word (Some n) h fits = sym (job_some word n fits h)
+    of (Some n) e = let r = long_reads word n e in absurd (h n r.0 r.1)
+long_is word (Some n) h fits = sym (long_some word n fits h)
 
 -- ---- numbers with a sign, as `read_num` reads them
-fits_then : (z : ℤ) → fits_i64 z ≡ true → FitsSigned w64 z
+fits_then : (z : ℤ) → fits z ≡ true → FitsSigned w64 z
 fits_then (pos n) h = let small : n < 2 ^ 63 = grind arith in omega (arith, ints)
 fits_then (negsuc n) h = let small : n < 2 ^ 63 = grind arith in omega (arith, ints)
 
-then_fits : (z : ℤ) → FitsSigned w64 z → fits_i64 z ≡ true
+then_fits : (z : ℤ) → FitsSigned w64 z → fits z ≡ true
 then_fits (pos n) h = let small : n < 2 ^ 63 = omega (arith, ints) in grind arith
 then_fits (negsuc n) h = let small : n < 2 ^ 63 = omega (arith, ints) in grind arith
 
 signed_within_reads : (o : Option ℤ) (z : ℤ) → signed_within o ≡ Some z → (o ≡ Some z) × FitsSigned w64 z
-signed_within_reads (Some y) z h = of (fits_i64 y) refl h
+signed_within_reads (Some y) z h = of (fits y) refl h
   where
-    of : (b : Bool) → fits_i64 y ≡ b → cond b (Some y) None ≡ Some z → (Some y ≡ Some z) × FitsSigned w64 z
+    of : (b : Bool) → fits y ≡ b → cond b (Some y) None ≡ Some z → (Some y ≡ Some z) × FitsSigned w64 z
     of true e h = let same : y ≡ z = cc in (ap Some same, rw (sym same) (fits_then y e))
     of false e h = cc
 signed_within_reads None z h = cc

@@ -9,9 +9,9 @@ use Rattle.ak_labor.specs.declared.work.WorkKind.TheVariants.{Square, Mix, Fail}
 use Rattle.ak_labor.specs.declared.work.Outcome.{Outcome}
 use Rattle.ak_labor.specs.declared.work.Outcome.TheVariants.{Good, Bad}
 use Rattle.ak_print.specs.Work.{kind_word}
-use Rattle.ak_row.specs.Places.{Place, Exactly, Thing, JobNumber, Signed, Counted, Stands, outcome_places}
-use Rattle.ak_row.specs.Parts.{Part, ◌>>=◌, both, mapped, end_at, found_at, thing_of, job_of, count_of, signed_of, kind_of, all_kinds, thing_at, job_at, count_at, signed_at, kind_at, outcome_from, outcome_at, whole}
-use Rattle.ak_row.proofs.Numbers.{thing_reads, thing_some, job_reads, job_some, count_reads, count_some, signed_reads, signed_some}
+use Rattle.ak_row.specs.Places.{Place, Exactly, Thing, LongNumber, Signed, Counted, Stands, outcome_places}
+use Rattle.ak_row.specs.Parts.{Part, ◌>>=◌, both, mapped, end_at, found_at, thing_of, long_of, count_of, signed_of, kind_of, all_kinds, thing_at, long_at, count_at, signed_at, kind_at, outcome_from, outcome_at, whole}
+use Rattle.ak_row.proofs.Numbers.{thing_reads, thing_some, long_reads, long_some, count_reads, count_some, signed_reads, signed_some}
 
 -- ---- what was found
 abbrev pub found_with : {A B : Type 0} → A → B → Option (A × B)
@@ -134,9 +134,9 @@ pub thing_part : IsPart (λ n. Thing n ∷ []) thing_at
 unfolding thing_at
 thing_part = item_part Thing thing_of (record { sound = thing_reads; complete = λ word n h. thing_some word n h.0 h.1 })
 
-pub job_part : IsPart (λ n. JobNumber n ∷ []) job_at
-unfolding job_at
-job_part = item_part JobNumber job_of (record { sound = job_reads; complete = λ word n h. job_some word n h.0 h.1 })
+pub long_part : IsPart (λ n. LongNumber n ∷ []) long_at
+unfolding long_at
+long_part = item_part LongNumber long_of (record { sound = long_reads; complete = λ word n h. long_some word n h.0 h.1 })
 
 pub count_part : IsPart (λ n. Counted n ∷ []) count_at
 unfolding count_at

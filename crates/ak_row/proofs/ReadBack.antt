@@ -6,9 +6,9 @@ use Rattle.std.proofs.lemmas.Int.{ints}
 use Rattle.std.proofs.lemmas.Fmt.{decimal_nonempty, digits_decimal, digits_value-decimal}
 use Rattle.std.proofs.lemmas.Str.Parse.{IsNumeralModel, numerals_by_weight}
 use Rattle.ak_text.specs.Decimal.{decimal_of}
-use Rattle.ak_text.specs.Lines.{TextLine, text_lines, numbered, lines_of, words_of, has_bad_byte, is_not_empty}
+use Rattle.ak_text.specs.Lines.{TextLine, text_lines, numbered, lines_of, words_of, has_bad_byte, is_not_empty, counts, counting_lines}
 use Rattle.ak_text.specs.Numbers.{Writes, has_minus, is_digit, digits_value}
-use Rattle.ak_row.specs.Places.{Place, Exactly, Thing, JobNumber, Signed, Counted, Stands, IsRow, counts, counting_lines}
+use Rattle.ak_row.specs.Places.{Place, Exactly, Thing, LongNumber, Signed, Counted, Stands, IsRow}
 use Rattle.ak_row.specs.Plain.{place_word, row_text, is_plain_byte, is_plain_word, IsPlain, IsPlainRow}
 use Rattle.ak_row.proofs.Written.{both_true, and_true, all_weaker, AllPlain, joined, joined_bytes, joined_words, none_bad, no_comment_in, line_up_to, line_then}
 
@@ -59,14 +59,14 @@ signed_plain (negsuc n) h =
 pub plain_word : (place : Place) → IsPlain place → is_plain_word (place_word place) ≡ true
 plain_word (Exactly bytes) h = h
 plain_word (Thing n) h = decimal_plain n (omega arith)
-plain_word (JobNumber n) h = decimal_plain n h
+plain_word (LongNumber n) h = decimal_plain n h
 plain_word (Signed z) h = signed_plain z h
 plain_word (Counted n) h = decimal_plain n (omega arith)
 
 pub plain_stands : (place : Place) → IsPlain place → Stands place (place_word place)
 plain_stands (Exactly bytes) h = refl
 plain_stands (Thing n) h = (h, decimal_writes n (omega arith))
-plain_stands (JobNumber n) h = (h, decimal_writes n h)
+plain_stands (LongNumber n) h = (h, decimal_writes n h)
 plain_stands (Signed z) h = (h, signed_writes z h)
 plain_stands (Counted n) h = (h.0, h.1, decimal_writes n (omega arith))
 

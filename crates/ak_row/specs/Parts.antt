@@ -3,6 +3,7 @@
 use Rattle.std.specs.Prelude.{◌≡◌, ℕ, ◌-◌, ◌^◌, Bool, ◌&&◌, nat_le, nat_lt, Option, Some, None, List, [], ◌∷◌, length, ℤ, pos, negsuc, codes, if◌then◌else◌}
 use Rattle.std.specs.List.{list_all, find}
 use Rattle.std.specs.Str.{bytes_eq}
+use Rattle.ak_base.specs.Numbers.{fits}
 use Rattle.ak_text.specs.Lines.{TextLine, words_of, has_bad_byte}
 use Rattle.ak_text.specs.Numbers.{is_digit, without_minus, signed_value}
 use Rattle.ak_labor.specs.declared.work.WorkKind.{WorkKind}
@@ -58,19 +59,14 @@ within least most None = None
 unfoldable pub thing_of : List ℕ → Option ℕ
 thing_of word = within 0 (2 ^ 32 - 1) (written word)
 
-unfoldable pub job_of : List ℕ → Option ℕ
-job_of word = within 0 (2 ^ 64 - 1) (written word)
+unfoldable pub long_of : List ℕ → Option ℕ
+long_of word = within 0 (2 ^ 64 - 1) (written word)
 
 unfoldable pub count_of : List ℕ → Option ℕ
 count_of word = within 1 1000000 (written word)
 
--- the same, with a sign
-abbrev pub fits_i64 : ℤ → Bool
-fits_i64 (pos number) = nat_lt number (2 ^ 63)
-fits_i64 (negsuc number) = nat_lt number (2 ^ 63)
-
 abbrev pub signed_within : Option ℤ → Option ℤ
-signed_within (Some number) = if fits_i64 number then Some number else None
+signed_within (Some number) = if fits number then Some number else None
 signed_within None = None
 
 unfoldable pub signed_of : List ℕ → Option ℤ
@@ -85,8 +81,8 @@ kind_of word = find (λ kind. bytes_eq (kind_word kind) word) all_kinds
 unfoldable pub thing_at : Part ℕ
 thing_at = found_at thing_of
 
-unfoldable pub job_at : Part ℕ
-job_at = found_at job_of
+unfoldable pub long_at : Part ℕ
+long_at = found_at long_of
 
 unfoldable pub count_at : Part ℕ
 count_at = found_at count_of

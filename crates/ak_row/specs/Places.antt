@@ -1,8 +1,8 @@
 -- Rows: lines of a written text, word by word.
-use Rattle.std.specs.Prelude.{◌≡◌, ℕ, ◌<◌, ◌≤◌, ◌^◌, Bool, false, not, ◌||◌, ◌==◌, List, [], ◌∷◌, filter, length, ℤ, pos, FitsSigned, codes}
+use Rattle.std.specs.Prelude.{◌≡◌, ℕ, ◌<◌, ◌≤◌, ◌^◌, false, List, [], ◌∷◌, ℤ, pos, FitsSigned, codes}
 use Rattle.std.specs.Int.{w64}
 use Rattle.std.specs.List.{AllZip}
-use Rattle.ak_text.specs.Lines.{TextLine, text_lines, words_of, has_bad_byte}
+use Rattle.ak_text.specs.Lines.{TextLine, words_of, has_bad_byte}
 use Rattle.ak_text.specs.Numbers.{Writes}
 use Rattle.ak_labor.specs.declared.work.Outcome.{Outcome}
 use Rattle.ak_labor.specs.declared.work.Outcome.TheVariants.{Good, Bad}
@@ -13,8 +13,8 @@ pub data Place : Type 0 where
   Exactly : List ℕ → Place
   -- the number of a thing, which counts from 0
   Thing : ℕ → Place
-  -- the number of a job, which counts from 0
-  JobNumber : ℕ → Place
+  -- the number of a job or of a request, which counts from 0
+  LongNumber : ℕ → Place
   -- a number with a sign
   Signed : ℤ → Place
   -- how many times, one to 1,000,000
@@ -24,7 +24,7 @@ pub data Place : Type 0 where
 abbrev pub Stands : Place → List ℕ → Type 0
 Stands (Exactly bytes) word = word ≡ bytes
 Stands (Thing number) word = (number < 2 ^ 32) × Writes word (pos number)
-Stands (JobNumber number) word = (number < 2 ^ 64) × Writes word (pos number)
+Stands (LongNumber number) word = (number < 2 ^ 64) × Writes word (pos number)
 Stands (Signed number) word = FitsSigned w64 number × Writes word number
 Stands (Counted number) word = (1 ≤ number) × (number ≤ 1000000) × Writes word (pos number)
 
@@ -37,11 +37,3 @@ pub record IsRow (places : List Place) (line : TextLine) : Type 0 where
 abbrev pub outcome_places : Outcome → List Place
 outcome_places (Good number) = Exactly (codes "good") ∷ Signed number ∷ []
 outcome_places (Bad number) = Exactly (codes "bad") ∷ Signed number ∷ []
-
--- whether a line isn't skipped: a good line without words is
-abbrev pub counts : TextLine → Bool
-counts line = has_bad_byte line.text || not (length (words_of line.text) == 0)
-
--- the lines of a text that aren't skipped
-abbrev pub counting_lines : List ℕ → List TextLine
-counting_lines bytes = filter counts (text_lines bytes)

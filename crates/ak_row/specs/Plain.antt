@@ -5,13 +5,13 @@ use Rattle.std.specs.List.{list_all, AllByRecursion}
 use Rattle.ak_text.specs.Lines.{is_word_byte, begins_comment, is_not_empty}
 use Rattle.ak_text.specs.Decimal.{decimal_of}
 use Rattle.ak_print.specs.Line.{line_text}
-use Rattle.ak_row.specs.Places.{Place, Exactly, Thing, JobNumber, Signed, Counted}
+use Rattle.ak_row.specs.Places.{Place, Exactly, Thing, LongNumber, Signed, Counted}
 
 -- the word that is written for a place
 abbrev pub place_word : Place → List ℕ
 place_word (Exactly bytes) = bytes
 place_word (Thing number) = decimal number
-place_word (JobNumber number) = decimal number
+place_word (LongNumber number) = decimal number
 place_word (Signed number) = decimal_of number
 place_word (Counted number) = decimal number
 
@@ -30,7 +30,7 @@ is_plain_word word = is_not_empty word && list_all is_plain_byte word
 abbrev pub IsPlain : Place → Type 0
 IsPlain (Exactly bytes) = is_plain_word bytes ≡ true
 IsPlain (Thing number) = number < 2 ^ 32
-IsPlain (JobNumber number) = number < 2 ^ 64
+IsPlain (LongNumber number) = number < 2 ^ 64
 IsPlain (Signed number) = FitsSigned w64 number
 IsPlain (Counted number) = (1 ≤ number) × (number ≤ 1000000)
 

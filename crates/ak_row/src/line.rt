@@ -1,7 +1,7 @@
 //! Lines that a reader of rows skips.
 
 ghost use Rattle.std.specs.Prelude.{◌≡◌};
-ghost use Rattle.ak_row.specs.Places.{counts};
+ghost use Rattle.ak_text.specs.Lines.{counts};
 
 use ak_text::line::Line;
 

@@ -1,10 +1,10 @@
 //! The words of a row, taken one after the other.
 
 ghost use Rattle.std.specs.Prelude.{◌≡◌};
-ghost use Rattle.ak_row.specs.Parts.{Leaves, row_words, word_at, end_at, thing_at, job_at, count_at, signed_at, kind_at, outcome_at};
+ghost use Rattle.ak_row.specs.Parts.{Leaves, row_words, word_at, end_at, thing_at, long_at, count_at, signed_at, kind_at, outcome_at};
 
-use crate::word::{count, job, kind, signed, thing};
-use ak_base::number::{JobNo, No, Num};
+use crate::word::{count, kind, long, signed, thing};
+use ak_base::number::{JobNo, No, Num, RequestNo};
 use ak_labor::work::{Outcome, WorkKind};
 use ak_text::line::{Line, Words};
 use std::marker::Model;
@@ -65,12 +65,21 @@ impl<'a> Row<'a> {
     }
 
     /// The number of a job, a `u64`.
-    #[tactic(auto, unfolding(crate::specs::Parts::job_at))]
+    #[tactic(auto, unfolding(crate::specs::Parts::long_at))]
     pub fn job(&mut self) -> Option<JobNo>
-        ensures { Leaves (λ n. n) result self.new (job_at self.old) }
+        ensures { Leaves (λ n. n) result self.new (long_at self.old) }
     {
-        let number = job(self.word()?)?;
+        let number = long(self.word()?)?;
         Some(JobNo::new(number))
+    }
+
+    /// The number of a request, a `u64`.
+    #[tactic(auto, unfolding(crate::specs::Parts::long_at))]
+    pub fn request(&mut self) -> Option<RequestNo>
+        ensures { Leaves (λ n. n) result self.new (long_at self.old) }
+    {
+        let number = long(self.word()?)?;
+        Some(RequestNo::new(number))
     }
 
     /// How many times: one to 1,000,000.

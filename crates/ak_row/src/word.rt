@@ -2,7 +2,7 @@
 //! may have a minus and zeros in front, as long as its value lies in the range.
 
 ghost use Rattle.std.specs.Prelude.{◌≡◌};
-ghost use Rattle.ak_row.specs.Parts.{thing_of, job_of, count_of, signed_of, kind_of};
+ghost use Rattle.ak_row.specs.Parts.{thing_of, long_of, count_of, signed_of, kind_of};
 
 use ak_base::number::Num;
 use ak_labor::work::WorkKind;
@@ -12,17 +12,17 @@ use ak_text::read::{read_num, read_u64};
 const MAX_COUNT: u32 = 1_000_000;
 
 /// The number of a thing, from 0 to 4,294,967,295.
-#[tactic(auto, using(crate::proofs::Numbers::thing_by_job))]
+#[tactic(auto, using(crate::proofs::Numbers::thing_by_long))]
 pub fn thing(word: &[u8]) -> Option<u32>
     ensures { result ≡ thing_of word.now }
 {
-    let number = job(word)?;
+    let number = long(word)?;
     u32::try_from(number).ok()
 }
 
-/// The number of a job, from 0 to 18,446,744,073,709,551,615.
-pub fn job(word: &[u8]) -> Option<u64>
-    ensures { result ≡ job_of word.now }
+/// The number of a job or of a request, from 0 to 18,446,744,073,709,551,615.
+pub fn long(word: &[u8]) -> Option<u64>
+    ensures { result ≡ long_of word.now }
 {
     read_u64(word)
 }

@@ -8,7 +8,7 @@ use Rattle.ak_program.specs.declared.program.NumProc.{NumProc}
 use Rattle.ak_trace.specs.declared.entry.Entry.{Entry}
 use Rattle.ak_trace.specs.declared.entry.Entry.TheVariants as entry
 use Rattle.ak_trace.specs.declared.entry.Ending.TheVariants as ending
-use Rattle.ak_rows.specs.Row.{Row, proc, line, usual, empty, drains}
+use Rattle.ak_rows.specs.Row.{Row, without_ask, proc, line, usual, empty, drains}
 
 -- A script that prints.
 -- proc main; print 7; end
@@ -24,8 +24,7 @@ print_alone_trace =
 abbrev pub print_alone : Row
 print_alone =
     record {
-      program = print_alone_program;
-      main = 0;
+      program = without_ask print_alone_program 0;
       config = usual;
       replies =
           empty 2 (Done ∷ []);
@@ -57,8 +56,7 @@ handlers_in_order_trace =
 abbrev pub handlers_in_order : Row
 handlers_in_order =
     record {
-      program = handlers_in_order_program;
-      main = 0;
+      program = without_ask handlers_in_order_program 0;
       config = usual;
       replies =
           empty 4 (Done ∷ []);
@@ -87,8 +85,7 @@ full_ivar_raises_trace =
 abbrev pub full_ivar_raises : Row
 full_ivar_raises =
     record {
-      program = full_ivar_raises_program;
-      main = 0;
+      program = without_ask full_ivar_raises_program 0;
       config = usual;
       replies =
           empty 1 (Done ∷ []);
@@ -130,8 +127,7 @@ connections_merge_handlers_trace =
 abbrev pub connections_merge_handlers : Row
 connections_merge_handlers =
     record {
-      program = connections_merge_handlers_program;
-      main = 0;
+      program = without_ask connections_merge_handlers_program 0;
       config = usual;
       replies =
           empty 9 (Done ∷ []);
@@ -159,9 +155,8 @@ low_jobs_wait_trace =
 abbrev pub low_jobs_wait : Row
 low_jobs_wait =
     record {
-      program = low_jobs_wait_program;
-      main = 0;
-      config = record { threads = 4; limit = 1; jobs = 100000 };
+      program = without_ask low_jobs_wait_program 0;
+      config = record usual { limit = 1 };
       replies =
           empty 9 (Done ∷ []);
       trace = low_jobs_wait_trace;
@@ -185,9 +180,8 @@ job_limit_reached_trace =
 abbrev pub job_limit_reached : Row
 job_limit_reached =
     record {
-      program = job_limit_reached_program;
-      main = 0;
-      config = record { threads = 4; limit = 500; jobs = 3 };
+      program = without_ask job_limit_reached_program 0;
+      config = record usual { jobs = 3 };
       replies =
           empty 4 (Done ∷ []);
       trace = job_limit_reached_trace;
@@ -211,9 +205,8 @@ job_limit_just_met_trace =
 abbrev pub job_limit_just_met : Row
 job_limit_just_met =
     record {
-      program = job_limit_just_met_program;
-      main = 0;
-      config = record { threads = 4; limit = 500; jobs = 3 };
+      program = without_ask job_limit_just_met_program 0;
+      config = record usual { jobs = 3 };
       replies =
           empty 4 (Done ∷ []);
       trace = job_limit_just_met_trace;
@@ -242,8 +235,7 @@ stop_ends_the_run_trace =
 abbrev pub stop_ends_the_run : Row
 stop_ends_the_run =
     record {
-      program = stop_ends_the_run_program;
-      main = 0;
+      program = without_ask stop_ends_the_run_program 0;
       config = usual;
       replies =
           empty 1 (Done ∷ []);

@@ -9,7 +9,7 @@ use Rattle.ak_program.specs.declared.program.NumProc.{NumProc}
 use Rattle.ak_trace.specs.declared.entry.Entry.{Entry}
 use Rattle.ak_trace.specs.declared.entry.Entry.TheVariants as entry
 use Rattle.ak_trace.specs.declared.entry.Ending.TheVariants as ending
-use Rattle.ak_rows.specs.Row.{Row, proc, line, usual, empty, drains}
+use Rattle.ak_rows.specs.Row.{Row, without_ask, proc, line, usual, empty, drains}
 
 -- An error that a monitor above catches fills the next error of the one that it passes.
 -- proc main; monitor a; within a B; end; proc B; monitor b; detach b; within b C; end; proc C; monitor c; nexterr e
@@ -38,8 +38,7 @@ next_error_passes_trace =
 abbrev pub next_error_passes : Row
 next_error_passes =
     record {
-      program = next_error_passes_program;
-      main = 0;
+      program = without_ask next_error_passes_program 0;
       config = usual;
       replies =
           empty 6 (Done ∷ []);
@@ -71,8 +70,7 @@ handler_raises_in_its_own_context_trace =
 abbrev pub handler_raises_in_its_own_context : Row
 handler_raises_in_its_own_context =
     record {
-      program = handler_raises_in_its_own_context_program;
-      main = 0;
+      program = without_ask handler_raises_in_its_own_context_program 0;
       config = usual;
       replies =
           empty 3 (Done ∷ []);
@@ -103,8 +101,7 @@ try_takes_the_first_error_trace =
 abbrev pub try_takes_the_first_error : Row
 try_takes_the_first_error =
     record {
-      program = try_takes_the_first_error_program;
-      main = 0;
+      program = without_ask try_takes_the_first_error_program 0;
       config = usual;
       replies =
           empty 6 (Done ∷ []);
@@ -134,8 +131,7 @@ later_error_goes_up_trace =
 abbrev pub later_error_goes_up : Row
 later_error_goes_up =
     record {
-      program = later_error_goes_up_program;
-      main = 0;
+      program = without_ask later_error_goes_up_program 0;
       config = usual;
       replies =
           empty 3 (Done ∷ []);
@@ -175,8 +171,7 @@ error_after_return_goes_up_trace =
 abbrev pub error_after_return_goes_up : Row
 error_after_return_goes_up =
     record {
-      program = error_after_return_goes_up_program;
-      main = 0;
+      program = without_ask error_after_return_goes_up_program 0;
       config = usual;
       replies =
           empty 7 (Done ∷ []);

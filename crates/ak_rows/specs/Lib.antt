@@ -17,3 +17,6 @@ pub mod PinsOfWorks
 pub mod PinsOfJobs
 pub mod PinsOfHistories
 pub mod PinsOfReplays
+pub mod PinsOfRequests
+pub mod PinsOfAskers
+pub mod Requests

@@ -9,7 +9,7 @@ use Rattle.ak_program.specs.declared.statement.NumStmt.TheVariants as stmt
 use Rattle.ak_program.specs.declared.program.NumPrefix.TheVariants.{If, Unless}
 use Rattle.ak_trace.specs.declared.entry.Entry.TheVariants as entry
 use Rattle.ak_trace.specs.declared.entry.Ending.TheVariants as ending
-use Rattle.ak_rows.specs.Row.{Row, proc, line, line_when, choice, empty, drains}
+use Rattle.ak_rows.specs.Row.{Row, usual, without_ask, proc, line, line_when, choice, empty, drains}
 
 -- args of a call are the values of the moment of the statement:
 -- proc main; ivar i; set x 1 + 1; upon i T x; sched T 9 x; low T 8 x; set y x * x; upon i T y; fill i 0; end; proc T
@@ -17,24 +17,21 @@ use Rattle.ak_rows.specs.Row.{Row, proc, line, line_when, choice, empty, drains}
 abbrev pub args_are_taken_at_registration : Row
 args_are_taken_at_registration =
     record {
-      program =
+      program = without_ask (
           proc (line (stmt.Ivar 0) ∷ line (stmt.Set 1 (Literal (pos 1)) operator.Add (Literal (pos 1))) ∷ line (stmt.Upon 0 1 ((Local 1) ∷ [])) ∷
           line (stmt.Sched 1 ((Literal (pos 9)) ∷ (Local 1) ∷ [])) ∷ line (stmt.Low 1 ((Literal (pos 8)) ∷ (Local 1) ∷ [])) ∷
           line (stmt.Set 2 (Local 1) operator.Mul (Local 1)) ∷ line (stmt.Upon 0 1 ((Local 2) ∷ [])) ∷
           line (stmt.Fill 0 (Literal (pos 0))) ∷ []) ∷
           proc (line (stmt.Print (Local 0)) ∷ line (stmt.Print (Local 1)) ∷ []) ∷
-          [];
-      main = 0;
-      config = record { threads = 4; limit = 500; jobs = 100000 };
-      replies = empty 6 (Done
-          ∷ []);
+          []) 0;
+      config = usual;
+      replies = empty 6 (Done ∷ []);
       trace = (entry.Enq 0 false ∷ entry.Cycle ∷ entry.Job 0 ∷ entry.Enq 1 false ∷ entry.Enq 2 true ∷ entry.Fill 0 (pos 0) ∷
           entry.Enq 3 false ∷ entry.Enq 4 false ∷ entry.Job 1 ∷ entry.Print (pos 9) ∷ entry.Print (pos 2) ∷
           entry.Job 3 ∷ entry.Print (pos 0) ∷ entry.Print (pos 2) ∷ entry.Job 4 ∷ entry.Print (pos 0) ∷
           entry.Print (pos 4) ∷ entry.Job 2 ∷ entry.Print (pos 8) ∷ entry.Print (pos 2) ∷ entry.End ending.Idle ∷
           []);
-      asks = drains 6 (ask.Close
-          ∷ []);
+      asks = drains 6 (ask.Close ∷ []);
     }
 
 -- quotients cut towards zero, a remainder has the sign of its left side:
@@ -44,7 +41,7 @@ args_are_taken_at_registration =
 abbrev pub division_cuts_and_remainder_has_the_sign_of_a : Row
 division_cuts_and_remainder_has_the_sign_of_a =
     record {
-      program =
+      program = without_ask (
           proc (line (stmt.Set 0 (Literal (pos 7)) operator.Div (Literal (pos 2))) ∷ line (stmt.Print (Local 0)) ∷
           line (stmt.Set 1 (Literal (negsuc 6)) operator.Div (Literal (pos 2))) ∷ line (stmt.Print (Local 1)) ∷
           line (stmt.Set 2 (Literal (pos 7)) operator.Div (Literal (negsuc 1))) ∷ line (stmt.Print (Local 2)) ∷
@@ -58,17 +55,14 @@ division_cuts_and_remainder_has_the_sign_of_a =
           line (stmt.Print (Local 9)) ∷ line (stmt.Set 10 (Literal (pos 1)) operator.Div (Literal (negsuc 0))) ∷
           line (stmt.Print (Local 10)) ∷ line (stmt.Set 11 (Literal (pos 0)) operator.Div (Literal (negsuc 1))) ∷
           line (stmt.Print (Local 11)) ∷ []) ∷
-          [];
-      main = 0;
-      config = record { threads = 4; limit = 500; jobs = 100000 };
-      replies = empty 2 (Done
-          ∷ []);
+          []) 0;
+      config = usual;
+      replies = empty 2 (Done ∷ []);
       trace = (entry.Enq 0 false ∷ entry.Cycle ∷ entry.Job 0 ∷ entry.Print (pos 3) ∷ entry.Print (negsuc 2) ∷
           entry.Print (negsuc 2) ∷ entry.Print (pos 3) ∷ entry.Print (pos 1) ∷ entry.Print (negsuc 0) ∷
           entry.Print (negsuc 0) ∷ entry.Print (pos 0) ∷ entry.Print (pos 0) ∷ entry.Print (negsuc 0) ∷
           entry.Print (negsuc 0) ∷ entry.Print (pos 0) ∷ entry.End ending.Idle ∷ []);
-      asks = drains 2 (ask.Close
-          ∷ []);
+      asks = drains 2 (ask.Close ∷ []);
     }
 
 -- each statement with a result draws one number, also where it is never used:
@@ -79,7 +73,7 @@ division_cuts_and_remainder_has_the_sign_of_a =
 abbrev pub each_result_draws_one_number : Row
 each_result_draws_one_number =
     record {
-      program =
+      program = without_ask (
           proc (line (stmt.Ivar 0) ∷ line (stmt.Never 1) ∷ line (stmt.Yield 2) ∷ line (stmt.After 3 (Literal (pos 9))) ∷
           line (stmt.Event 4 5 (Literal (pos 9))) ∷ line (stmt.Bind 6 0 1 []) ∷ line (stmt.All 7 (0 ∷ []) 1 []) ∷
           line (stmt.Any 8 (0 ∷ [])) ∷ line (stmt.Choose 9 (choice 0 1 ∷ []) []) ∷ line (stmt.Monitor 10) ∷
@@ -90,16 +84,13 @@ each_result_draws_one_number =
           line (stmt.Fill 23 (Literal (pos 1))) ∷ line (stmt.Stop) ∷ []) ∷
           proc [] ∷
           proc [] ∷
-          [];
-      main = 0;
-      config = record { threads = 4; limit = 500; jobs = 100000 };
-      replies = empty 1 (Done
-          ∷ []);
+          []) 0;
+      config = usual;
+      replies = empty 1 (Done ∷ []);
       trace = (entry.Enq 0 false ∷ entry.Cycle ∷ entry.Job 0 ∷ entry.Monitor 1 0 ∷ entry.Fill 14 (pos 0) ∷
           entry.Monitor 2 0 ∷ entry.Detach 2 ∷ entry.Enq 1 false ∷ entry.Monitor 3 0 ∷ entry.Detach 3 ∷
           entry.Enq 2 false ∷ entry.Fill 18 (pos 1) ∷ entry.End ending.Stopped ∷ []);
-      asks = drains 1 (ask.Close
-          ∷ []);
+      asks = drains 1 (ask.Close ∷ []);
     }
 
 -- a handler runs in the monitor and priority in which it was registered:
@@ -109,7 +100,7 @@ each_result_draws_one_number =
 abbrev pub handlers_keep_their_context : Row
 handlers_keep_their_context =
     record {
-      program =
+      program = without_ask (
           proc (line (stmt.Ivar 0) ∷ line (stmt.Ivar 1) ∷ line (stmt.Fill 1 (Literal (pos 2))) ∷ line (stmt.Monitor 2) ∷
           line (stmt.Detach 2) ∷ line (stmt.Monitor 3) ∷ line (stmt.Within 2 1 ((Local 0) ∷ (Local 1) ∷ [])) ∷
           line (stmt.Low 2 ((Local 0) ∷ (Local 1) ∷ [])) ∷ line (stmt.Yield 4) ∷ line (stmt.Upon 4 4 ((Local 0) ∷ [])) ∷
@@ -119,19 +110,16 @@ handlers_keep_their_context =
           proc (line (stmt.Raise (Local 0)) ∷ []) ∷
           proc (line (stmt.Fill 1 (Literal (pos 7))) ∷ []) ∷
           proc (line (stmt.Print (Local 0)) ∷ []) ∷
-          [];
-      main = 0;
-      config = record { threads = 4; limit = 500; jobs = 100000 };
-      replies = empty 10 (Done
-          ∷ []);
+          []) 0;
+      config = usual;
+      replies = empty 10 (Done ∷ []);
       trace = (entry.Enq 0 false ∷ entry.Cycle ∷ entry.Job 0 ∷ entry.Fill 1 (pos 2) ∷ entry.Monitor 1 0 ∷
           entry.Detach 1 ∷ entry.Monitor 2 0 ∷ entry.Enq 1 false ∷ entry.Enq 2 true ∷ entry.Job 1 ∷ entry.Enq 3 false ∷
           entry.Job 3 ∷ entry.Error (pos 2) 1 ∷ entry.Caught 1 ∷ entry.Job 2 ∷ entry.Enq 4 true ∷ entry.Job 4 ∷
           entry.Print (pos 2) ∷ entry.Cycle ∷ entry.Fill 2 (pos 0) ∷ entry.Enq 5 false ∷ entry.Job 5 ∷
           entry.Fill 0 (pos 7) ∷ entry.Enq 6 false ∷ entry.Enq 7 true ∷ entry.Job 6 ∷ entry.Error (pos 7) 1 ∷
           entry.Caught 1 ∷ entry.Job 7 ∷ entry.Print (pos 7) ∷ entry.End ending.Idle ∷ []);
-      asks = drains 10 (ask.Close
-          ∷ []);
+      asks = drains 10 (ask.Close ∷ []);
     }
 
 -- a run of exactly J jobs ends idle:
@@ -139,18 +127,15 @@ handlers_keep_their_context =
 abbrev pub job_limit_just_met : Row
 job_limit_just_met =
     record {
-      program =
+      program = without_ask (
           proc (line (stmt.Sched 1 []) ∷ line (stmt.Sched 1 []) ∷ []) ∷
           proc (line (stmt.Print (Literal (pos 1))) ∷ []) ∷
-          [];
-      main = 0;
-      config = record { threads = 4; limit = 500; jobs = 3 };
-      replies = empty 4 (Done
-          ∷ []);
+          []) 0;
+      config = record usual { jobs = 3 };
+      replies = empty 4 (Done ∷ []);
       trace = (entry.Enq 0 false ∷ entry.Cycle ∷ entry.Job 0 ∷ entry.Enq 1 false ∷ entry.Enq 2 false ∷ entry.Job 1 ∷
           entry.Print (pos 1) ∷ entry.Job 2 ∷ entry.Print (pos 1) ∷ entry.End ending.Idle ∷ []);
-      asks = drains 4 (ask.Close
-          ∷ []);
+      asks = drains 4 (ask.Close ∷ []);
     }
 
 -- the limit J counts over all cycles and both priorities, and a cycle begins without a pick:
@@ -158,20 +143,17 @@ job_limit_just_met =
 abbrev pub job_limit_over_cycles : Row
 job_limit_over_cycles =
     record {
-      program =
+      program = without_ask (
           proc (line (stmt.Low 1 ((Literal (pos 1)) ∷ [])) ∷ line (stmt.Yield 0) ∷ line (stmt.Upon 0 1 []) ∷
           line (stmt.Sched 1 ((Literal (pos 2)) ∷ [])) ∷ []) ∷
           proc (line (stmt.Print (Local 0)) ∷ []) ∷
-          [];
-      main = 0;
-      config = record { threads = 4; limit = 1; jobs = 3 };
-      replies = empty 6 (Done
-          ∷ []);
+          []) 0;
+      config = record usual { limit = 1; jobs = 3 };
+      replies = empty 6 (Done ∷ []);
       trace = (entry.Enq 0 false ∷ entry.Cycle ∷ entry.Job 0 ∷ entry.Enq 1 true ∷ entry.Enq 2 false ∷ entry.Job 1 ∷
           entry.Print (pos 1) ∷ entry.Cycle ∷ entry.Fill 0 (pos 0) ∷ entry.Enq 3 false ∷ entry.Job 2 ∷
           entry.Print (pos 2) ∷ entry.Cycle ∷ entry.End ending.Jobs ∷ []);
-      asks = drains 6 (ask.Close
-          ∷ []);
+      asks = drains 6 (ask.Close ∷ []);
     }
 
 -- what the procedures of upon, bind, all and choose enqueue has the priority of their statement:
@@ -180,17 +162,15 @@ job_limit_over_cycles =
 abbrev pub jobs_of_handlers_keep_their_priority : Row
 jobs_of_handlers_keep_their_priority =
     record {
-      program =
+      program = without_ask (
           proc (line (stmt.Sched 1 []) ∷ line (stmt.Low 1 []) ∷ []) ∷
           proc (line (stmt.Ivar 0) ∷ line (stmt.Upon 0 2 []) ∷ line (stmt.Bind 1 0 2 []) ∷ line (stmt.All 2 (0 ∷ []) 2 []) ∷
           line (stmt.Choose 3 (choice 0 2 ∷ []) []) ∷ line (stmt.Fill 0 (Literal (pos 1))) ∷ []) ∷
           proc (line (stmt.Monitor 1) ∷ line (stmt.Within 1 3 []) ∷ []) ∷
           proc [] ∷
-          [];
-      main = 0;
-      config = record { threads = 4; limit = 500; jobs = 100000 };
-      replies = empty 20 (Done
-          ∷ []);
+          []) 0;
+      config = usual;
+      replies = empty 20 (Done ∷ []);
       trace = (entry.Enq 0 false ∷ entry.Cycle ∷ entry.Job 0 ∷ entry.Enq 1 false ∷ entry.Enq 2 true ∷ entry.Job 1 ∷
           entry.Fill 0 (pos 1) ∷ entry.Enq 3 false ∷ entry.Enq 4 false ∷ entry.Enq 5 false ∷ entry.Enq 6 false ∷
           entry.Job 3 ∷ entry.Monitor 1 0 ∷ entry.Enq 7 false ∷ entry.Job 4 ∷ entry.Monitor 2 0 ∷ entry.Enq 8 false ∷
@@ -202,8 +182,7 @@ jobs_of_handlers_keep_their_priority =
           entry.Job 13 ∷ entry.Monitor 7 0 ∷ entry.Enq 17 true ∷ entry.Fill 6 (pos 0) ∷ entry.Job 14 ∷
           entry.Monitor 8 0 ∷ entry.Enq 18 true ∷ entry.Fill 7 (pos 0) ∷ entry.Job 15 ∷ entry.Job 16 ∷
           entry.Job 17 ∷ entry.Job 18 ∷ entry.End ending.Idle ∷ []);
-      asks = drains 20 (ask.Close
-          ∷ []);
+      asks = drains 20 (ask.Close ∷ []);
     }
 
 -- in a cycle at most L jobs of each priority run, and a low one where the normal ones had their turn:
@@ -211,21 +190,18 @@ jobs_of_handlers_keep_their_priority =
 abbrev pub limit_per_cycle : Row
 limit_per_cycle =
     record {
-      program =
+      program = without_ask (
           proc (line (stmt.Low 2 []) ∷ line (stmt.Sched 1 []) ∷ line (stmt.Sched 1 []) ∷ []) ∷
           proc (line (stmt.Print (Literal (pos 1))) ∷ []) ∷
           proc (line (stmt.Print (Literal (pos 2))) ∷ line (stmt.Sched 1 []) ∷ []) ∷
-          [];
-      main = 0;
-      config = record { threads = 4; limit = 2; jobs = 100000 };
-      replies = empty 7 (Done
-          ∷ []);
+          []) 0;
+      config = record usual { limit = 2 };
+      replies = empty 7 (Done ∷ []);
       trace = (entry.Enq 0 false ∷ entry.Cycle ∷ entry.Job 0 ∷ entry.Enq 1 true ∷ entry.Enq 2 false ∷ entry.Enq 3 false ∷
           entry.Job 2 ∷ entry.Print (pos 1) ∷ entry.Job 1 ∷ entry.Print (pos 2) ∷ entry.Enq 4 false ∷
           entry.Cycle ∷ entry.Job 3 ∷ entry.Print (pos 1) ∷ entry.Job 4 ∷ entry.Print (pos 1) ∷ entry.End ending.Idle ∷
           []);
-      asks = drains 7 (ask.Close
-          ∷ []);
+      asks = drains 7 (ask.Close ∷ []);
     }
 
 -- low jobs that wait begin the next cycle:
@@ -233,20 +209,17 @@ limit_per_cycle =
 abbrev pub low_jobs_alone_begin_a_cycle : Row
 low_jobs_alone_begin_a_cycle =
     record {
-      program =
+      program = without_ask (
           proc (line (stmt.Low 1 ((Literal (pos 1)) ∷ [])) ∷ line (stmt.Low 1 ((Literal (pos 2)) ∷ [])) ∷ line (stmt.Low 1 ((Literal (pos 3)) ∷ [])) ∷
           []) ∷
           proc (line (stmt.Print (Local 0)) ∷ []) ∷
-          [];
-      main = 0;
-      config = record { threads = 4; limit = 2; jobs = 100000 };
-      replies = empty 6 (Done
-          ∷ []);
+          []) 0;
+      config = record usual { limit = 2 };
+      replies = empty 6 (Done ∷ []);
       trace = (entry.Enq 0 false ∷ entry.Cycle ∷ entry.Job 0 ∷ entry.Enq 1 true ∷ entry.Enq 2 true ∷ entry.Enq 3 true ∷
           entry.Job 1 ∷ entry.Print (pos 1) ∷ entry.Job 2 ∷ entry.Print (pos 2) ∷ entry.Cycle ∷ entry.Job 3 ∷
           entry.Print (pos 3) ∷ entry.End ending.Idle ∷ []);
-      asks = drains 6 (ask.Close
-          ∷ []);
+      asks = drains 6 (ask.Close ∷ []);
     }
 
 -- a result outside 64 bits raises -1, the greatest and the least number do not:
@@ -258,7 +231,7 @@ low_jobs_alone_begin_a_cycle =
 abbrev pub numbers_end_at_64_bits : Row
 numbers_end_at_64_bits =
     record {
-      program =
+      program = without_ask (
           proc (line (stmt.Monitor 0) ∷ line (stmt.Detach 0) ∷ line (stmt.Within 0 3 []) ∷ line (stmt.Within 0 4 []) ∷
           line (stmt.Within 0 5 []) ∷ line (stmt.Within 0 6 []) ∷ line (stmt.Within 0 1 []) ∷ line (stmt.Within 0 2 []) ∷
           line (stmt.Set 1 (Literal (pos 9223372036854775806)) operator.Add (Literal (pos 1))) ∷ line (stmt.Print (Local 1)) ∷
@@ -276,11 +249,9 @@ numbers_end_at_64_bits =
           []) ∷
           proc (line (stmt.Set 0 (Literal (negsuc 9223372036854775807)) operator.Div (Literal (negsuc 0))) ∷
           line (stmt.Print (Local 0)) ∷ []) ∷
-          [];
-      main = 0;
-      config = record { threads = 4; limit = 500; jobs = 100000 };
-      replies = empty 8 (Done
-          ∷ []);
+          []) 0;
+      config = usual;
+      replies = empty 8 (Done ∷ []);
       trace = (entry.Enq 0 false ∷ entry.Cycle ∷ entry.Job 0 ∷ entry.Monitor 1 0 ∷ entry.Detach 1 ∷ entry.Enq 1 false ∷
           entry.Enq 2 false ∷ entry.Enq 3 false ∷ entry.Enq 4 false ∷ entry.Enq 5 false ∷ entry.Enq 6 false ∷
           entry.Print (pos 9223372036854775807) ∷ entry.Print (negsuc 9223372036854775807) ∷ entry.Job 1 ∷
@@ -288,8 +259,7 @@ numbers_end_at_64_bits =
           entry.Job 3 ∷ entry.Error (negsuc 0) 1 ∷ entry.Caught 1 ∷ entry.Job 4 ∷ entry.Error (negsuc 0) 1 ∷
           entry.Caught 1 ∷ entry.Job 5 ∷ entry.Error (negsuc 1) 1 ∷ entry.Caught 1 ∷ entry.Job 6 ∷ entry.Error (negsuc 1) 1 ∷
           entry.Caught 1 ∷ entry.End ending.Idle ∷ []);
-      asks = drains 8 (ask.Close
-          ∷ []);
+      asks = drains 8 (ask.Close ∷ []);
     }
 
 -- each operator on numbers where it differs from the others; if acts where its number is not 0, unless where it is 0:
@@ -300,7 +270,7 @@ numbers_end_at_64_bits =
 abbrev pub operators_and_prefixes : Row
 operators_and_prefixes =
     record {
-      program =
+      program = without_ask (
           proc (line_when (If (Literal (pos 0))) (stmt.Print (Literal (pos 90))) ∷ line_when (If (Literal (negsuc 0))) (stmt.Print (Literal (pos 91))) ∷
           line_when (Unless (Literal (pos 0))) (stmt.Print (Literal (pos 92))) ∷ line_when (Unless (Literal (negsuc 0))) (stmt.Print (Literal (pos 93))) ∷
           line (stmt.Set 0 (Literal (pos 7)) operator.Add (Literal (pos 3))) ∷ line (stmt.Print (Local 0)) ∷
@@ -316,17 +286,14 @@ operators_and_prefixes =
           line (stmt.Set 10 (Literal (pos 3)) operator.NotEqual (Literal (pos 3))) ∷ line (stmt.Print (Local 10)) ∷
           line (stmt.Set 11 (Literal (pos 4)) operator.Less (Literal (pos 3))) ∷ line (stmt.Print (Local 11)) ∷
           []) ∷
-          [];
-      main = 0;
-      config = record { threads = 4; limit = 500; jobs = 100000 };
-      replies = empty 2 (Done
-          ∷ []);
+          []) 0;
+      config = usual;
+      replies = empty 2 (Done ∷ []);
       trace = (entry.Enq 0 false ∷ entry.Cycle ∷ entry.Job 0 ∷ entry.Print (pos 91) ∷ entry.Print (pos 92) ∷
           entry.Print (pos 10) ∷ entry.Print (pos 4) ∷ entry.Print (pos 21) ∷ entry.Print (pos 1) ∷ entry.Print (pos 0) ∷
           entry.Print (pos 1) ∷ entry.Print (pos 0) ∷ entry.Print (pos 1) ∷ entry.Print (pos 0) ∷ entry.Print (pos 1) ∷
           entry.Print (pos 0) ∷ entry.Print (pos 0) ∷ entry.End ending.Idle ∷ []);
-      asks = drains 2 (ask.Close
-          ∷ []);
+      asks = drains 2 (ask.Close ∷ []);
     }
 
 -- each pipe, throttle and event is the one named:
@@ -337,7 +304,7 @@ operators_and_prefixes =
 abbrev pub things_by_their_names : Row
 things_by_their_names =
     record {
-      program =
+      program = without_ask (
           proc (line (stmt.Pipe 0 0) ∷ line (stmt.Pipe 1 1) ∷ line (stmt.Pipe 2 2) ∷ line (stmt.Throttle 3 1 false) ∷
           line (stmt.Throttle 4 2 false) ∷ line (stmt.Throttle 5 3 false) ∷ line (stmt.Event 6 7 (Literal (pos 5))) ∷
           line (stmt.Event 8 9 (Literal (pos 5))) ∷ line (stmt.Write 10 0 (Literal (pos 1))) ∷ line (stmt.Write 11 1 (Literal (pos 2))) ∷
@@ -348,17 +315,14 @@ things_by_their_names =
           proc (line (stmt.Print (Local 0)) ∷ line (stmt.Never 1) ∷ line (stmt.Ret (Local 1)) ∷ []) ∷
           proc [] ∷
           proc (line (stmt.Print (Local 0)) ∷ []) ∷
-          [];
-      main = 0;
-      config = record { threads = 4; limit = 500; jobs = 100000 };
-      replies = empty 7 (Done
-          ∷ []);
+          []) 0;
+      config = usual;
+      replies = empty 7 (Done ∷ []);
       trace = (entry.Enq 0 false ∷ entry.Cycle ∷ entry.Job 0 ∷ entry.Fill 3 (pos 0) ∷ entry.Fill 2 (pos 0) ∷
           entry.Enq 1 false ∷ entry.Monitor 1 0 ∷ entry.Detach 1 ∷ entry.Enq 2 false ∷ entry.Monitor 2 0 ∷
           entry.Detach 2 ∷ entry.Enq 3 false ∷ entry.Monitor 3 0 ∷ entry.Detach 3 ∷ entry.Enq 4 false ∷
           entry.Fill 0 (pos 1) ∷ entry.Enq 5 false ∷ entry.Job 1 ∷ entry.Print (pos 1) ∷ entry.Fill 5 (pos 0) ∷
           entry.Job 2 ∷ entry.Print (pos 1) ∷ entry.Job 3 ∷ entry.Print (pos 3) ∷ entry.Job 4 ∷ entry.Print (pos 4) ∷
           entry.Job 5 ∷ entry.Print (pos 1) ∷ entry.End ending.Idle ∷ []);
-      asks = drains 7 (ask.Close
-          ∷ []);
+      asks = drains 7 (ask.Close ∷ []);
     }

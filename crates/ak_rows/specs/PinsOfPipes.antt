@@ -8,7 +8,7 @@ use Rattle.ak_program.specs.declared.statement.NumStmt.TheVariants as stmt
 use Rattle.ak_program.specs.declared.program.NumPrefix.TheVariants.{If, Unless}
 use Rattle.ak_trace.specs.declared.entry.Entry.TheVariants as entry
 use Rattle.ak_trace.specs.declared.entry.Ending.TheVariants as ending
-use Rattle.ak_rows.specs.Row.{Row, proc, line, line_when, empty, drains}
+use Rattle.ak_rows.specs.Row.{Row, usual, without_ask, proc, line, line_when, empty, drains}
 
 -- close gives each waiting read its other procedure in its own context, oldest first, and a second close does nothing:
 -- proc main; pipe p 0; rd w p G else H 0; monitor m; detach m; within m A p 1; low A p 2; yield y; upon y F p; end;
@@ -17,7 +17,7 @@ use Rattle.ak_rows.specs.Row.{Row, proc, line, line_when, empty, drains}
 abbrev pub close_ends_waiting_reads : Row
 close_ends_waiting_reads =
     record {
-      program =
+      program = without_ask (
           proc (line (stmt.Pipe 0 0) ∷ line (stmt.Read 1 0 3 [] 4 ((Literal (pos 0)) ∷ [])) ∷ line (stmt.Monitor 2) ∷
           line (stmt.Detach 2) ∷ line (stmt.Within 2 1 ((Local 0) ∷ (Literal (pos 1)) ∷ [])) ∷ line (stmt.Low 1 ((Local 0) ∷ (Literal (pos 2)) ∷ [])) ∷
           line (stmt.Yield 3) ∷ line (stmt.Upon 3 2 ((Local 0) ∷ [])) ∷ []) ∷
@@ -26,19 +26,16 @@ close_ends_waiting_reads =
           proc [] ∷
           proc (line_when (If (Local 0)) (stmt.Raise (Local 0)) ∷ []) ∷
           proc (line (stmt.Print (Local 0)) ∷ []) ∷
-          [];
-      main = 0;
-      config = record { threads = 4; limit = 500; jobs = 100000 };
-      replies = empty 8 (Done
-          ∷ []);
+          []) 0;
+      config = usual;
+      replies = empty 8 (Done ∷ []);
       trace = (entry.Enq 0 false ∷ entry.Cycle ∷ entry.Job 0 ∷ entry.Monitor 1 0 ∷ entry.Detach 1 ∷ entry.Enq 1 false ∷
           entry.Enq 2 true ∷ entry.Job 1 ∷ entry.Job 2 ∷ entry.Cycle ∷ entry.Fill 1 (pos 0) ∷ entry.Enq 3 false ∷
           entry.Job 3 ∷ entry.Enq 4 false ∷ entry.Enq 5 false ∷ entry.Enq 6 true ∷ entry.Print (pos 6) ∷
           entry.Job 4 ∷ entry.Fill 0 (pos 0) ∷ entry.Job 5 ∷ entry.Error (pos 1) 1 ∷ entry.Caught 1 ∷
           entry.Job 6 ∷ entry.Error (pos 2) 0 ∷ entry.Unhandled (pos 2) ∷ entry.End ending.Unhandled ∷
           []);
-      asks = drains 8 (ask.Close
-          ∷ []);
+      asks = drains 8 (ask.Close ∷ []);
     }
 
 -- closeread drops the items and fills pushbacks with 0 and flushes with 1, oldest first; after it a flush is filled
@@ -49,7 +46,7 @@ close_ends_waiting_reads =
 abbrev pub close_read : Row
 close_read =
     record {
-      program =
+      program = without_ask (
           proc (line (stmt.Pipe 0 0) ∷ line (stmt.Write 1 0 (Literal (pos 1))) ∷ line (stmt.Flushed 2 0) ∷
           line (stmt.Write 3 0 (Literal (pos 2))) ∷ line (stmt.Flushed 4 0) ∷ line (stmt.CloseRead 0) ∷
           line (stmt.Print (Literal (pos 9))) ∷ line (stmt.CloseRead 0) ∷ line (stmt.Flushed 5 0) ∷ line (stmt.Read 6 0 1 [] 2 []) ∷
@@ -57,17 +54,14 @@ close_read =
           line (stmt.Write 10 0 (Literal (pos 3))) ∷ []) ∷
           proc [] ∷
           proc (line (stmt.Print (Literal (pos 4))) ∷ []) ∷
-          [];
-      main = 0;
-      config = record { threads = 4; limit = 500; jobs = 100000 };
-      replies = empty 1 (Done
-          ∷ []);
+          []) 0;
+      config = usual;
+      replies = empty 1 (Done ∷ []);
       trace = (entry.Enq 0 false ∷ entry.Cycle ∷ entry.Job 0 ∷ entry.Fill 0 (pos 0) ∷ entry.Fill 2 (pos 0) ∷
           entry.Fill 1 (pos 1) ∷ entry.Fill 3 (pos 1) ∷ entry.Print (pos 9) ∷ entry.Fill 4 (pos 1) ∷
           entry.Enq 1 false ∷ entry.Enq 2 false ∷ entry.Enq 3 false ∷ entry.Error (negsuc 3) 0 ∷ entry.Unhandled (negsuc 3) ∷
           entry.End ending.Unhandled ∷ []);
-      asks = drains 1 (ask.Close
-          ∷ []);
+      asks = drains 1 (ask.Close ∷ []);
     }
 
 -- closeread after close acts on what is left:
@@ -76,24 +70,21 @@ close_read =
 abbrev pub close_read_after_close : Row
 close_read_after_close =
     record {
-      program =
+      program = without_ask (
           proc (line (stmt.Pipe 0 0) ∷ line (stmt.Write 1 0 (Literal (pos 1))) ∷ line (stmt.Flushed 2 0) ∷
           line (stmt.Close 0) ∷ line (stmt.Print (Literal (pos 9))) ∷ line (stmt.CloseRead 0) ∷ line (stmt.Read 3 0 1 [] 2 []) ∷
           line (stmt.Flushed 4 0) ∷ line (stmt.Pipe 5 0) ∷ line (stmt.Close 5) ∷ line (stmt.Read 6 5 1 [] 2 []) ∷
           line (stmt.CloseRead 5) ∷ []) ∷
           proc [] ∷
           proc (line (stmt.Print (Literal (pos 4))) ∷ []) ∷
-          [];
-      main = 0;
-      config = record { threads = 4; limit = 500; jobs = 100000 };
-      replies = empty 4 (Done
-          ∷ []);
+          []) 0;
+      config = usual;
+      replies = empty 4 (Done ∷ []);
       trace = (entry.Enq 0 false ∷ entry.Cycle ∷ entry.Job 0 ∷ entry.Print (pos 9) ∷ entry.Fill 0 (pos 0) ∷
           entry.Fill 1 (pos 1) ∷ entry.Enq 1 false ∷ entry.Fill 3 (pos 1) ∷ entry.Enq 2 false ∷ entry.Job 1 ∷
           entry.Print (pos 4) ∷ entry.Fill 2 (pos 0) ∷ entry.Job 2 ∷ entry.Print (pos 4) ∷ entry.Fill 4 (pos 0) ∷
           entry.End ending.Idle ∷ []);
-      asks = drains 4 (ask.Close
-          ∷ []);
+      asks = drains 4 (ask.Close ∷ []);
     }
 
 -- items of a closed pipe are read, then its reads end; the job that reads gives the context:
@@ -103,7 +94,7 @@ close_read_after_close =
 abbrev pub closed_pipe_still_gives_its_items : Row
 closed_pipe_still_gives_its_items =
     record {
-      program =
+      program = without_ask (
           proc (line (stmt.Pipe 0 0) ∷ line (stmt.Put 0 (Literal (pos 7))) ∷ line (stmt.Close 0) ∷ line (stmt.Read 1 0 3 [] 4 ((Literal (pos 1)) ∷ [])) ∷
           line (stmt.Low 1 ((Local 0) ∷ [])) ∷ line (stmt.Monitor 2) ∷ line (stmt.Detach 2) ∷ line (stmt.Monitor 3) ∷
           line (stmt.Within 2 2 ((Local 0) ∷ [])) ∷ []) ∷
@@ -113,18 +104,15 @@ closed_pipe_still_gives_its_items =
           proc (line (stmt.Print (Local 0)) ∷ line (stmt.Ret (Local 0)) ∷ []) ∷
           proc (line (stmt.Raise (Literal (pos 5))) ∷ []) ∷
           proc (line (stmt.Print (Local 0)) ∷ []) ∷
-          [];
-      main = 0;
-      config = record { threads = 4; limit = 500; jobs = 100000 };
-      replies = empty 8 (Done
-          ∷ []);
+          []) 0;
+      config = usual;
+      replies = empty 8 (Done ∷ []);
       trace = (entry.Enq 0 false ∷ entry.Cycle ∷ entry.Job 0 ∷ entry.Enq 1 false ∷ entry.Enq 2 true ∷ entry.Monitor 1 0 ∷
           entry.Detach 1 ∷ entry.Monitor 2 0 ∷ entry.Enq 3 false ∷ entry.Job 1 ∷ entry.Print (pos 7) ∷
           entry.Fill 0 (pos 0) ∷ entry.Job 3 ∷ entry.Enq 4 false ∷ entry.Job 4 ∷ entry.Error (pos 5) 1 ∷
           entry.Caught 1 ∷ entry.Job 2 ∷ entry.Enq 5 true ∷ entry.Job 5 ∷ entry.Print (pos 2) ∷ entry.Fill 2 (pos 2) ∷
           entry.Enq 6 true ∷ entry.Job 6 ∷ entry.Print (pos 2) ∷ entry.End ending.Idle ∷ []);
-      asks = drains 8 (ask.Close
-          ∷ []);
+      asks = drains 8 (ask.Close ∷ []);
     }
 
 -- a number that a waiting read takes counts as written and as consumed:
@@ -134,7 +122,7 @@ closed_pipe_still_gives_its_items =
 abbrev pub consumed_by_waiting_reads : Row
 consumed_by_waiting_reads =
     record {
-      program =
+      program = without_ask (
           proc (line (stmt.Pipe 0 0) ∷ line (stmt.Read 1 0 1 [] 2 []) ∷ line (stmt.Read 2 0 1 [] 2 []) ∷ line (stmt.Put 0 (Literal (pos 1))) ∷
           line (stmt.Put 0 (Literal (pos 2))) ∷ line (stmt.Put 0 (Literal (pos 3))) ∷ line (stmt.Put 0 (Literal (pos 4))) ∷
           line (stmt.Flushed 3 0) ∷ line (stmt.Upon 3 3 []) ∷ line (stmt.Put 0 (Literal (pos 5))) ∷ line (stmt.Read 4 0 1 [] 2 []) ∷
@@ -143,18 +131,15 @@ consumed_by_waiting_reads =
           proc [] ∷
           proc [] ∷
           proc (line (stmt.Print (Local 0)) ∷ []) ∷
-          [];
-      main = 0;
-      config = record { threads = 4; limit = 500; jobs = 100000 };
-      replies = empty 8 (Done
-          ∷ []);
+          []) 0;
+      config = usual;
+      replies = empty 8 (Done ∷ []);
       trace = (entry.Enq 0 false ∷ entry.Cycle ∷ entry.Job 0 ∷ entry.Enq 1 false ∷ entry.Enq 2 false ∷ entry.Enq 3 false ∷
           entry.Print (pos 8) ∷ entry.Fill 2 (pos 0) ∷ entry.Enq 4 false ∷ entry.Enq 5 false ∷ entry.Print (pos 9) ∷
           entry.Enq 6 false ∷ entry.Job 1 ∷ entry.Fill 0 (pos 0) ∷ entry.Job 2 ∷ entry.Fill 1 (pos 0) ∷
           entry.Job 3 ∷ entry.Fill 3 (pos 0) ∷ entry.Job 4 ∷ entry.Print (pos 0) ∷ entry.Job 5 ∷ entry.Fill 4 (pos 0) ∷
           entry.Job 6 ∷ entry.Fill 5 (pos 0) ∷ entry.End ending.Idle ∷ []);
-      asks = drains 8 (ask.Close
-          ∷ []);
+      asks = drains 8 (ask.Close ∷ []);
     }
 
 -- a read of an item: pushbacks, then flushes, then its call:
@@ -164,7 +149,7 @@ consumed_by_waiting_reads =
 abbrev pub rd_order_of_effects : Row
 rd_order_of_effects =
     record {
-      program =
+      program = without_ask (
           proc (line (stmt.Pipe 0 0) ∷ line (stmt.Write 1 0 (Literal (pos 1))) ∷ line (stmt.Flushed 2 0) ∷
           line (stmt.Flushed 3 0) ∷ line (stmt.Write 4 0 (Literal (pos 2))) ∷ line (stmt.Flushed 5 0) ∷
           line (stmt.Upon 1 3 ((Literal (pos 1)) ∷ [])) ∷ line (stmt.Upon 4 3 ((Literal (pos 2)) ∷ [])) ∷
@@ -174,11 +159,9 @@ rd_order_of_effects =
           proc (line (stmt.Ret (Local 0)) ∷ []) ∷
           proc [] ∷
           proc (line (stmt.Print (Local 1)) ∷ line (stmt.Print (Local 0)) ∷ []) ∷
-          [];
-      main = 0;
-      config = record { threads = 4; limit = 500; jobs = 100000 };
-      replies = empty 9 (Done
-          ∷ []);
+          []) 0;
+      config = usual;
+      replies = empty 9 (Done ∷ []);
       trace = (entry.Enq 0 false ∷ entry.Cycle ∷ entry.Job 0 ∷ entry.Fill 1 (pos 0) ∷ entry.Enq 1 false ∷
           entry.Fill 2 (pos 0) ∷ entry.Enq 2 false ∷ entry.Enq 3 false ∷ entry.Print (pos 9) ∷ entry.Fill 0 (pos 0) ∷
           entry.Enq 4 false ∷ entry.Fill 3 (pos 0) ∷ entry.Enq 5 false ∷ entry.Fill 4 (pos 0) ∷ entry.Enq 6 false ∷
@@ -187,8 +170,7 @@ rd_order_of_effects =
           entry.Print (pos 1) ∷ entry.Print (pos 0) ∷ entry.Job 5 ∷ entry.Print (pos 2) ∷ entry.Print (pos 0) ∷
           entry.Job 6 ∷ entry.Print (pos 4) ∷ entry.Print (pos 0) ∷ entry.Job 7 ∷ entry.Fill 6 (pos 2) ∷
           entry.End ending.Idle ∷ []);
-      asks = drains 9 (ask.Close
-          ∷ []);
+      asks = drains 9 (ask.Close ∷ []);
     }
 
 -- a read of an item calls its procedure in the monitor and priority of the job:
@@ -198,7 +180,7 @@ rd_order_of_effects =
 abbrev pub read_of_an_item_in_its_context : Row
 read_of_an_item_in_its_context =
     record {
-      program =
+      program = without_ask (
           proc (line (stmt.Pipe 0 5) ∷ line (stmt.Put 0 (Literal (pos 1))) ∷ line (stmt.Put 0 (Literal (pos 2))) ∷
           line (stmt.Monitor 1) ∷ line (stmt.Detach 1) ∷ line (stmt.Monitor 2) ∷ line (stmt.Within 1 1 ((Local 0) ∷ [])) ∷
           line (stmt.Low 2 ((Local 0) ∷ [])) ∷ []) ∷
@@ -207,17 +189,14 @@ read_of_an_item_in_its_context =
           proc (line (stmt.Raise (Local 0)) ∷ []) ∷
           proc [] ∷
           proc (line (stmt.Print (Local 0)) ∷ line (stmt.Print (Local 1)) ∷ []) ∷
-          [];
-      main = 0;
-      config = record { threads = 4; limit = 500; jobs = 100000 };
-      replies = empty 6 (Done
-          ∷ []);
+          []) 0;
+      config = usual;
+      replies = empty 6 (Done ∷ []);
       trace = (entry.Enq 0 false ∷ entry.Cycle ∷ entry.Job 0 ∷ entry.Monitor 1 0 ∷ entry.Detach 1 ∷ entry.Monitor 2 0 ∷
           entry.Enq 1 false ∷ entry.Enq 2 true ∷ entry.Job 1 ∷ entry.Enq 3 false ∷ entry.Job 3 ∷ entry.Error (pos 1) 1 ∷
           entry.Caught 1 ∷ entry.Job 2 ∷ entry.Enq 4 true ∷ entry.Job 4 ∷ entry.Print (pos 2) ∷ entry.Print (pos 10) ∷
           entry.Fill 1 (pos 0) ∷ entry.End ending.Idle ∷ []);
-      asks = drains 6 (ask.Close
-          ∷ []);
+      asks = drains 6 (ask.Close ∷ []);
     }
 
 -- a number goes to the oldest read that waits, in the context of that read:
@@ -227,7 +206,7 @@ read_of_an_item_in_its_context =
 abbrev pub reads_wait_in_order : Row
 reads_wait_in_order =
     record {
-      program =
+      program = without_ask (
           proc (line (stmt.Pipe 0 0) ∷ line (stmt.Monitor 1) ∷ line (stmt.Detach 1) ∷ line (stmt.Within 1 1 ((Local 0) ∷ [])) ∷
           line (stmt.Low 1 ((Local 0) ∷ [])) ∷ line (stmt.Yield 2) ∷ line (stmt.Upon 2 2 ((Local 0) ∷ [])) ∷
           []) ∷
@@ -238,19 +217,16 @@ reads_wait_in_order =
           line_when (Unless (Local 1)) (stmt.Raise (Literal (pos 8))) ∷ []) ∷
           proc [] ∷
           proc (line (stmt.Print (Local 1)) ∷ line (stmt.Print (Local 0)) ∷ []) ∷
-          [];
-      main = 0;
-      config = record { threads = 4; limit = 500; jobs = 100000 };
-      replies = empty 8 (Done
-          ∷ []);
+          []) 0;
+      config = usual;
+      replies = empty 8 (Done ∷ []);
       trace = (entry.Enq 0 false ∷ entry.Cycle ∷ entry.Job 0 ∷ entry.Monitor 1 0 ∷ entry.Detach 1 ∷ entry.Enq 1 false ∷
           entry.Enq 2 true ∷ entry.Job 1 ∷ entry.Job 2 ∷ entry.Cycle ∷ entry.Fill 0 (pos 0) ∷ entry.Enq 3 false ∷
           entry.Job 3 ∷ entry.Enq 4 false ∷ entry.Fill 3 (pos 0) ∷ entry.Enq 5 true ∷ entry.Enq 6 false ∷
           entry.Job 4 ∷ entry.Error (pos 8) 1 ∷ entry.Caught 1 ∷ entry.Job 6 ∷ entry.Print (pos 1) ∷
           entry.Print (pos 0) ∷ entry.Job 5 ∷ entry.Error (pos 4) 0 ∷ entry.Unhandled (pos 4) ∷ entry.End ending.Unhandled ∷
           []);
-      asks = drains 8 (ask.Close
-          ∷ []);
+      asks = drains 8 (ask.Close ∷ []);
     }
 
 -- write and put to a closed pipe raise -4:
@@ -260,7 +236,7 @@ reads_wait_in_order =
 abbrev pub write_to_a_closed_pipe : Row
 write_to_a_closed_pipe =
     record {
-      program =
+      program = without_ask (
           proc (line (stmt.Pipe 0 5) ∷ line (stmt.Close 0) ∷ line (stmt.Monitor 1) ∷ line (stmt.Detach 1) ∷
           line (stmt.Within 1 1 ((Local 0) ∷ [])) ∷ line (stmt.Within 1 2 ((Local 0) ∷ [])) ∷ line (stmt.Sched 3 ((Local 0) ∷ [])) ∷
           []) ∷
@@ -269,16 +245,13 @@ write_to_a_closed_pipe =
           proc (line (stmt.Flushed 1 0) ∷ line (stmt.Read 2 0 4 [] 5 []) ∷ []) ∷
           proc (line (stmt.Print (Local 0)) ∷ []) ∷
           proc (line (stmt.Print (Literal (pos 3))) ∷ []) ∷
-          [];
-      main = 0;
-      config = record { threads = 4; limit = 500; jobs = 100000 };
-      replies = empty 6 (Done
-          ∷ []);
+          []) 0;
+      config = usual;
+      replies = empty 6 (Done ∷ []);
       trace = (entry.Enq 0 false ∷ entry.Cycle ∷ entry.Job 0 ∷ entry.Monitor 1 0 ∷ entry.Detach 1 ∷ entry.Enq 1 false ∷
           entry.Enq 2 false ∷ entry.Enq 3 false ∷ entry.Job 1 ∷ entry.Error (negsuc 3) 1 ∷ entry.Caught 1 ∷
           entry.Job 2 ∷ entry.Error (negsuc 3) 1 ∷ entry.Caught 1 ∷ entry.Job 3 ∷ entry.Fill 0 (pos 0) ∷
           entry.Enq 4 false ∷ entry.Job 4 ∷ entry.Print (pos 3) ∷ entry.Fill 1 (pos 0) ∷ entry.End ending.Idle ∷
           []);
-      asks = drains 6 (ask.Close
-          ∷ []);
+      asks = drains 6 (ask.Close ∷ []);
     }

@@ -3,13 +3,13 @@ use Rattle.std.specs.Prelude.{pos, negsuc, [], ◌∷◌, true, false, None}
 use Rattle.ak_labor.specs.declared.ask.Ask.TheVariants as ask
 use Rattle.ak_labor.specs.declared.work.Outcome.TheVariants as outcome
 use Rattle.ak_labor.specs.declared.work.WorkKind.TheVariants as kind
-use Rattle.ak_labor.specs.Calls.{Pairs, Granted, Done}
+use Rattle.ak_labor.specs.Calls.{Granted, Done}
 use Rattle.ak_script.specs.declared.statement.GuardMode.TheVariants as mode
 use Rattle.ak_program.specs.declared.statement.NumAtom.TheVariants.{Literal, Local}
 use Rattle.ak_program.specs.declared.statement.NumStmt.TheVariants as stmt
 use Rattle.ak_trace.specs.declared.entry.Entry.TheVariants as entry
 use Rattle.ak_trace.specs.declared.entry.Ending.TheVariants as ending
-use Rattle.ak_rows.specs.Row.{Row, proc, line, choice, empty, drains}
+use Rattle.ak_rows.specs.Row.{Row, usual, brings, without_ask, proc, line, choice, empty, drains, work}
 
 -- handlers keep context and order through a connection:
 -- proc main; ivar i; monitor m; detach m; monitor z; upon i O 1; within m M i; low L i; yield y; bind r y P i; upon r
@@ -19,7 +19,7 @@ use Rattle.ak_rows.specs.Row.{Row, proc, line, choice, empty, drains}
 abbrev pub connection_keeps_contexts : Row
 connection_keeps_contexts =
     record {
-      program =
+      program = without_ask (
           proc (line (stmt.Ivar 0) ∷ line (stmt.Monitor 1) ∷ line (stmt.Detach 1) ∷ line (stmt.Monitor 2) ∷
           line (stmt.Upon 0 7 ((Literal (pos 1)) ∷ [])) ∷ line (stmt.Within 1 2 ((Local 0) ∷ [])) ∷ line (stmt.Low 3 ((Local 0) ∷ [])) ∷
           line (stmt.Yield 3) ∷ line (stmt.Bind 4 3 1 ((Local 0) ∷ [])) ∷ line (stmt.Upon 4 7 ((Literal (pos 2)) ∷ [])) ∷
@@ -31,11 +31,9 @@ connection_keeps_contexts =
           proc (line (stmt.Fill 1 (Literal (pos 7))) ∷ []) ∷
           proc (line (stmt.Raise (Local 0)) ∷ []) ∷
           proc (line (stmt.Print (Local 1)) ∷ line (stmt.Print (Local 0)) ∷ []) ∷
-          [];
-      main = 0;
-      config = record { threads = 4; limit = 500; jobs = 100000 };
-      replies = empty 13 (Done
-          ∷ []);
+          []) 0;
+      config = usual;
+      replies = empty 13 (Done ∷ []);
       trace = (entry.Enq 0 false ∷ entry.Cycle ∷ entry.Job 0 ∷ entry.Monitor 1 0 ∷ entry.Detach 1 ∷ entry.Monitor 2 0 ∷
           entry.Enq 1 false ∷ entry.Enq 2 true ∷ entry.Job 1 ∷ entry.Job 2 ∷ entry.Cycle ∷ entry.Fill 1 (pos 0) ∷
           entry.Enq 3 false ∷ entry.Fill 3 (pos 0) ∷ entry.Enq 4 false ∷ entry.Job 3 ∷ entry.Join 2 0 ∷
@@ -44,8 +42,7 @@ connection_keeps_contexts =
           entry.Print (pos 1) ∷ entry.Print (pos 7) ∷ entry.Job 7 ∷ entry.Print (pos 2) ∷ entry.Print (pos 7) ∷
           entry.Job 8 ∷ entry.Error (pos 7) 1 ∷ entry.Caught 1 ∷ entry.Job 9 ∷ entry.Print (pos 3) ∷
           entry.Print (pos 7) ∷ entry.End ending.Idle ∷ []);
-      asks = drains 13 (ask.Close
-          ∷ []);
+      asks = drains 13 (ask.Close ∷ []);
     }
 
 -- a connection to a full deferred fills the result, with its number and under the name that it has by then:
@@ -54,7 +51,7 @@ connection_keeps_contexts =
 abbrev pub connection_to_a_full_one_under_its_name : Row
 connection_to_a_full_one_under_its_name =
     record {
-      program =
+      program = without_ask (
           proc (line (stmt.Ivar 0) ∷ line (stmt.Fill 0 (Literal (pos 7))) ∷ line (stmt.Yield 1) ∷ line (stmt.Bind 2 1 1 ((Local 0) ∷ [])) ∷
           line (stmt.Upon 2 3 ((Local 2) ∷ [])) ∷ []) ∷
           proc (line (stmt.Yield 2) ∷ line (stmt.Bind 3 2 2 ((Local 1) ∷ [])) ∷ line (stmt.Ret (Local 3)) ∷
@@ -62,17 +59,14 @@ connection_to_a_full_one_under_its_name =
           proc (line (stmt.Ret (Local 1)) ∷ []) ∷
           proc (line (stmt.Upon 1 4 []) ∷ []) ∷
           proc (line (stmt.Print (Local 0)) ∷ []) ∷
-          [];
-      main = 0;
-      config = record { threads = 4; limit = 500; jobs = 100000 };
-      replies = empty 8 (Done
-          ∷ []);
+          []) 0;
+      config = usual;
+      replies = empty 8 (Done ∷ []);
       trace = (entry.Enq 0 false ∷ entry.Cycle ∷ entry.Job 0 ∷ entry.Fill 0 (pos 7) ∷ entry.Cycle ∷ entry.Fill 1 (pos 0) ∷
           entry.Enq 1 false ∷ entry.Job 1 ∷ entry.Join 2 4 ∷ entry.Cycle ∷ entry.Fill 3 (pos 0) ∷ entry.Enq 2 false ∷
           entry.Job 2 ∷ entry.Fill 2 (pos 7) ∷ entry.Enq 3 false ∷ entry.Job 3 ∷ entry.Enq 4 false ∷
           entry.Job 4 ∷ entry.Print (pos 7) ∷ entry.End ending.Idle ∷ []);
-      asks = drains 8 (ask.Close
-          ∷ []);
+      asks = drains 8 (ask.Close ∷ []);
     }
 
 -- handlers that a connection to a full deferred wakes have their own context:
@@ -82,7 +76,7 @@ connection_to_a_full_one_under_its_name =
 abbrev pub connection_to_a_full_one_wakes_in_context : Row
 connection_to_a_full_one_wakes_in_context =
     record {
-      program =
+      program = without_ask (
           proc (line (stmt.Ivar 0) ∷ line (stmt.Fill 0 (Literal (pos 7))) ∷ line (stmt.Yield 1) ∷ line (stmt.Bind 2 1 1 ((Local 0) ∷ [])) ∷
           line (stmt.Low 2 ((Local 2) ∷ [])) ∷ line (stmt.Monitor 3) ∷ line (stmt.Detach 3) ∷ line (stmt.Monitor 4) ∷
           line (stmt.Within 3 3 ((Local 2) ∷ [])) ∷ []) ∷
@@ -91,18 +85,15 @@ connection_to_a_full_one_wakes_in_context =
           proc (line (stmt.Upon 0 4 []) ∷ []) ∷
           proc (line (stmt.Raise (Local 0)) ∷ []) ∷
           proc (line (stmt.Print (Local 0)) ∷ []) ∷
-          [];
-      main = 0;
-      config = record { threads = 4; limit = 500; jobs = 100000 };
-      replies = empty 8 (Done
-          ∷ []);
+          []) 0;
+      config = usual;
+      replies = empty 8 (Done ∷ []);
       trace = (entry.Enq 0 false ∷ entry.Cycle ∷ entry.Job 0 ∷ entry.Fill 0 (pos 7) ∷ entry.Enq 1 true ∷ entry.Monitor 1 0 ∷
           entry.Detach 1 ∷ entry.Monitor 2 0 ∷ entry.Enq 2 false ∷ entry.Job 2 ∷ entry.Job 1 ∷ entry.Cycle ∷
           entry.Fill 1 (pos 0) ∷ entry.Enq 3 false ∷ entry.Job 3 ∷ entry.Fill 2 (pos 7) ∷ entry.Enq 4 false ∷
           entry.Enq 5 true ∷ entry.Job 4 ∷ entry.Error (pos 7) 1 ∷ entry.Caught 1 ∷ entry.Job 5 ∷ entry.Print (pos 7) ∷
           entry.End ending.Idle ∷ []);
-      asks = drains 8 (ask.Close
-          ∷ []);
+      asks = drains 8 (ask.Close ∷ []);
     }
 
 -- after a connection each old name stands for the one deferred: look, fill and register through each of them:
@@ -112,7 +103,7 @@ connection_to_a_full_one_wakes_in_context =
 abbrev pub names_of_all_sides : Row
 names_of_all_sides =
     record {
-      program =
+      program = without_ask (
           proc (line (stmt.Ivar 0) ∷ line (stmt.Ivar 1) ∷ line (stmt.Ivar 2) ∷ line (stmt.Bind 3 2 1 ((Local 0) ∷ [])) ∷
           line (stmt.Bind 4 2 1 ((Local 1) ∷ [])) ∷ line (stmt.Fill 2 (Literal (pos 0))) ∷ line (stmt.Yield 5) ∷
           line (stmt.Upon 5 2 ((Local 0) ∷ (Local 1) ∷ (Local 3) ∷ (Local 4) ∷ [])) ∷ []) ∷
@@ -122,18 +113,15 @@ names_of_all_sides =
           line (stmt.Fill 1 (Literal (pos 6))) ∷ line (stmt.Upon 3 3 ((Literal (pos 7)) ∷ [])) ∷ line (stmt.Fill 1 (Literal (pos 8))) ∷
           []) ∷
           proc (line (stmt.Print (Local 1)) ∷ line (stmt.Print (Local 0)) ∷ []) ∷
-          [];
-      main = 0;
-      config = record { threads = 4; limit = 500; jobs = 100000 };
-      replies = empty 5 (Done
-          ∷ []);
+          []) 0;
+      config = usual;
+      replies = empty 5 (Done ∷ []);
       trace = (entry.Enq 0 false ∷ entry.Cycle ∷ entry.Job 0 ∷ entry.Fill 2 (pos 0) ∷ entry.Enq 1 false ∷
           entry.Enq 2 false ∷ entry.Job 1 ∷ entry.Join 3 0 ∷ entry.Job 2 ∷ entry.Join 4 1 ∷ entry.Cycle ∷
           entry.Fill 5 (pos 0) ∷ entry.Enq 3 false ∷ entry.Job 3 ∷ entry.Fill 4 (pos 4) ∷ entry.Enq 4 false ∷
           entry.Enq 5 false ∷ entry.Fill 3 (pos 6) ∷ entry.Enq 6 false ∷ entry.Enq 7 false ∷ entry.Enq 8 false ∷
           entry.Error (negsuc 2) 0 ∷ entry.Unhandled (negsuc 2) ∷ entry.End ending.Unhandled ∷ []);
-      asks = drains 5 (ask.Close
-          ∷ []);
+      asks = drains 5 (ask.Close ∷ []);
     }
 
 -- a connection renames ivars and deferreds alone: numbers, monitors, pipes, throttles, events and helpers of the same
@@ -146,7 +134,7 @@ names_of_all_sides =
 abbrev pub renaming_leaves_other_things : Row
 renaming_leaves_other_things =
     record {
-      program =
+      program = without_ask (
           proc (line (stmt.Ivar 0) ∷ line (stmt.Ivar 1) ∷ line (stmt.Bind 2 0 1 ((Local 1) ∷ [])) ∷ line (stmt.Monitor 3) ∷
           line (stmt.Monitor 4) ∷ line (stmt.Detach 3) ∷ line (stmt.Detach 4) ∷ line (stmt.Pipe 5 0) ∷
           line (stmt.Pipe 6 0) ∷ line (stmt.Pipe 7 0) ∷ line (stmt.Close 7) ∷ line (stmt.Throttle 8 1 false) ∷
@@ -160,15 +148,9 @@ renaming_leaves_other_things =
           proc (line (stmt.Print (Local 1)) ∷ line (stmt.Send 2 (Literal (pos 7))) ∷ line (stmt.Put 3 (Literal (pos 5))) ∷
           line (stmt.Enqueue 7 4 5 []) ∷ line (stmt.Abort 5) ∷ line (stmt.HelperDone 6) ∷ []) ∷
           proc [] ∷
-          [];
-      main = 0;
-      config = record { threads = 4; limit = 500; jobs = 100000 };
-      replies = empty 1 (Granted true
-          ∷ Granted true
-          ∷ Granted true
-          ∷ empty 4 (Done
-          ∷ empty 2 (Done
-          ∷ [])));
+          []) 0;
+      config = usual;
+      replies = empty 1 (Granted true ∷ Granted true ∷ Granted true ∷ empty 4 (Done ∷ empty 2 (Done ∷ [])));
       trace = (entry.Enq 0 false ∷ entry.Cycle ∷ entry.Job 0 ∷ entry.Monitor 1 0 ∷ entry.Monitor 2 0 ∷ entry.Detach 1 ∷
           entry.Detach 2 ∷ entry.Monitor 3 0 ∷ entry.Detach 3 ∷ entry.Enq 1 false ∷ entry.Helper 0 true ∷
           entry.Helper 1 true ∷ entry.Helper 2 true ∷ entry.Fill 0 (pos 0) ∷ entry.Enq 2 false ∷ entry.Enq 3 false ∷
@@ -176,12 +158,8 @@ renaming_leaves_other_things =
           entry.Job 4 ∷ entry.Print (pos 1) ∷ entry.Error (pos 7) 1 ∷ entry.Caught 1 ∷ entry.Monitor 4 0 ∷
           entry.Detach 4 ∷ entry.Enq 5 false ∷ entry.Fill 5 (pos 1) ∷ entry.Job 5 ∷ entry.Fill 8 (pos 0) ∷
           entry.End ending.Idle ∷ []);
-      asks = drains 1 (ask.HelperNew 0
-          ∷ ask.HelperNew 1
-          ∷ ask.HelperNew 2
-          ∷ drains 4 (ask.HelperEnd 1
-          ∷ drains 2 (ask.Close
-          ∷ [])));
+      asks = drains 1 (ask.HelperNew 0 ∷ ask.HelperNew 1 ∷ ask.HelperNew 2 ∷ drains 4 (ask.HelperEnd 1
+          ∷ drains 2 (ask.Close ∷ [])));
     }
 
 -- a connection renames the args of a read that waits:
@@ -191,7 +169,7 @@ renaming_leaves_other_things =
 abbrev pub renaming_reaches_args_of_reads : Row
 renaming_reaches_args_of_reads =
     record {
-      program =
+      program = without_ask (
           proc (line (stmt.Ivar 0) ∷ line (stmt.Ivar 1) ∷ line (stmt.Ivar 2) ∷ line (stmt.Pipe 3 1) ∷ line (stmt.Bind 4 0 1 ((Local 1) ∷ [])) ∷
           line (stmt.Bind 5 0 1 ((Local 2) ∷ [])) ∷ line (stmt.Read 6 3 2 ((Local 1) ∷ []) 3 ((Local 2) ∷ [])) ∷
           line (stmt.Read 7 3 2 ((Local 1) ∷ []) 3 ((Local 2) ∷ [])) ∷ line (stmt.Fill 0 (Literal (pos 0))) ∷
@@ -200,18 +178,15 @@ renaming_reaches_args_of_reads =
           proc (line (stmt.Fill 1 (Local 0)) ∷ []) ∷
           proc (line (stmt.Fill 0 (Literal (pos 9))) ∷ []) ∷
           proc (line (stmt.Put 1 (Literal (pos 5))) ∷ line (stmt.Close 1) ∷ []) ∷
-          [];
-      main = 0;
-      config = record { threads = 4; limit = 500; jobs = 100000 };
-      replies = empty 8 (Done
-          ∷ []);
+          []) 0;
+      config = usual;
+      replies = empty 8 (Done ∷ []);
       trace = (entry.Enq 0 false ∷ entry.Cycle ∷ entry.Job 0 ∷ entry.Fill 0 (pos 0) ∷ entry.Enq 1 false ∷
           entry.Enq 2 false ∷ entry.Job 1 ∷ entry.Join 3 1 ∷ entry.Job 2 ∷ entry.Join 4 2 ∷ entry.Cycle ∷
           entry.Fill 7 (pos 0) ∷ entry.Enq 3 false ∷ entry.Job 3 ∷ entry.Enq 4 false ∷ entry.Enq 5 false ∷
           entry.Job 4 ∷ entry.Fill 3 (pos 5) ∷ entry.Fill 5 (pos 0) ∷ entry.Job 5 ∷ entry.Fill 4 (pos 9) ∷
           entry.Fill 6 (pos 0) ∷ entry.End ending.Idle ∷ []);
-      asks = drains 8 (ask.Close
-          ∷ []);
+      asks = drains 8 (ask.Close ∷ []);
     }
 
 -- a connection renames the args of both procedures of a try:
@@ -221,7 +196,7 @@ renaming_reaches_args_of_reads =
 abbrev pub renaming_reaches_args_of_try : Row
 renaming_reaches_args_of_try =
     record {
-      program =
+      program = without_ask (
           proc (line (stmt.Ivar 0) ∷ line (stmt.Ivar 1) ∷ line (stmt.Ivar 2) ∷ line (stmt.Bind 3 0 1 ((Local 1) ∷ [])) ∷
           line (stmt.Bind 4 0 1 ((Local 2) ∷ [])) ∷ line (stmt.Fill 0 (Literal (pos 0))) ∷ line (stmt.Try 5 2 ((Local 1) ∷ []) 4 ((Local 2) ∷ []) mode.Drop) ∷
           []) ∷
@@ -229,19 +204,16 @@ renaming_reaches_args_of_try =
           proc (line (stmt.Yield 1) ∷ line (stmt.Upon 1 3 ((Local 0) ∷ [])) ∷ line (stmt.Ret (Local 1)) ∷ []) ∷
           proc (line (stmt.Fill 1 (Literal (pos 1))) ∷ line (stmt.Raise (Literal (pos 2))) ∷ []) ∷
           proc (line (stmt.Fill 1 (Local 0)) ∷ []) ∷
-          [];
-      main = 0;
-      config = record { threads = 4; limit = 500; jobs = 100000 };
-      replies = empty 9 (Done
-          ∷ []);
+          []) 0;
+      config = usual;
+      replies = empty 9 (Done ∷ []);
       trace = (entry.Enq 0 false ∷ entry.Cycle ∷ entry.Job 0 ∷ entry.Fill 0 (pos 0) ∷ entry.Enq 1 false ∷
           entry.Enq 2 false ∷ entry.Monitor 1 0 ∷ entry.Detach 1 ∷ entry.Enq 3 false ∷ entry.Job 1 ∷
           entry.Join 3 1 ∷ entry.Job 2 ∷ entry.Join 4 2 ∷ entry.Job 3 ∷ entry.Cycle ∷ entry.Fill 6 (pos 0) ∷
           entry.Enq 4 false ∷ entry.Enq 5 false ∷ entry.Job 4 ∷ entry.Fill 3 (pos 1) ∷ entry.Error (pos 2) 1 ∷
           entry.Caught 1 ∷ entry.Enq 6 false ∷ entry.Job 5 ∷ entry.Job 6 ∷ entry.Fill 4 (pos 2) ∷ entry.Fill 5 (pos 0) ∷
           entry.End ending.Idle ∷ []);
-      asks = drains 9 (ask.Close
-          ∷ []);
+      asks = drains 9 (ask.Close ∷ []);
     }
 
 -- a connection renames the deferreds of any and choose, which keep their places, and the args of all and choose:
@@ -252,7 +224,7 @@ renaming_reaches_args_of_try =
 abbrev pub renaming_reaches_lists_and_args_of_groups : Row
 renaming_reaches_lists_and_args_of_groups =
     record {
-      program =
+      program = without_ask (
           proc (line (stmt.Ivar 0) ∷ line (stmt.Ivar 1) ∷ line (stmt.Ivar 2) ∷ line (stmt.Bind 3 0 1 ((Local 1) ∷ [])) ∷
           line (stmt.Any 4 (1 ∷ [])) ∷ line (stmt.Choose 5 (choice 1 2 ∷ choice 3 3 ∷ []) []) ∷ line (stmt.All 6 (2 ∷ []) 4 ((Local 1) ∷ [])) ∷
           line (stmt.Choose 7 (choice 2 4 ∷ []) ((Local 1) ∷ [])) ∷ line (stmt.Upon 4 6 ((Literal (pos 1)) ∷ [])) ∷
@@ -264,11 +236,9 @@ renaming_reaches_lists_and_args_of_groups =
           proc (line (stmt.Offer 1 (Local 0)) ∷ []) ∷
           proc (line (stmt.Fill 0 (Literal (pos 5))) ∷ []) ∷
           proc (line (stmt.Print (Local 1)) ∷ line (stmt.Print (Local 0)) ∷ []) ∷
-          [];
-      main = 0;
-      config = record { threads = 4; limit = 500; jobs = 100000 };
-      replies = empty 11 (Done
-          ∷ []);
+          []) 0;
+      config = usual;
+      replies = empty 11 (Done ∷ []);
       trace = (entry.Enq 0 false ∷ entry.Cycle ∷ entry.Job 0 ∷ entry.Fill 0 (pos 0) ∷ entry.Enq 1 false ∷
           entry.Enq 2 false ∷ entry.Job 1 ∷ entry.Join 3 1 ∷ entry.Job 2 ∷ entry.Fill 2 (pos 5) ∷ entry.Enq 3 false ∷
           entry.Enq 4 false ∷ entry.Job 3 ∷ entry.Fill 3 (pos 5) ∷ entry.Enq 5 false ∷ entry.Enq 6 false ∷
@@ -276,8 +246,7 @@ renaming_reaches_lists_and_args_of_groups =
           entry.Fill 4 (pos 5) ∷ entry.Enq 8 false ∷ entry.Job 6 ∷ entry.Fill 5 (pos 1) ∷ entry.Enq 9 false ∷
           entry.Job 7 ∷ entry.Job 8 ∷ entry.Print (pos 1) ∷ entry.Print (pos 5) ∷ entry.Job 9 ∷ entry.Print (pos 2) ∷
           entry.Print (pos 1) ∷ entry.End ending.Idle ∷ []);
-      asks = drains 11 (ask.Close
-          ∷ []);
+      asks = drains 11 (ask.Close ∷ []);
     }
 
 -- a connection renames a next error and the args of an error handler:
@@ -287,7 +256,7 @@ renaming_reaches_lists_and_args_of_groups =
 abbrev pub renaming_reaches_monitors : Row
 renaming_reaches_monitors =
     record {
-      program =
+      program = without_ask (
           proc (line (stmt.Monitor 0) ∷ line (stmt.Detach 0) ∷ line (stmt.Ivar 1) ∷ line (stmt.Ivar 2) ∷ line (stmt.Bind 3 1 1 ((Local 0) ∷ [])) ∷
           line (stmt.Bind 4 1 2 ((Local 2) ∷ [])) ∷ line (stmt.OnError 0 3 ((Local 2) ∷ [])) ∷ line (stmt.Upon 3 5 ((Literal (pos 1)) ∷ [])) ∷
           line (stmt.Fill 1 (Literal (pos 0))) ∷ line (stmt.Sched 4 ((Local 0) ∷ [])) ∷ []) ∷
@@ -296,18 +265,15 @@ renaming_reaches_monitors =
           proc (line (stmt.Fill 1 (Local 0)) ∷ []) ∷
           proc (line (stmt.Send 0 (Literal (pos 5))) ∷ []) ∷
           proc (line (stmt.Print (Local 1)) ∷ line (stmt.Print (Local 0)) ∷ []) ∷
-          [];
-      main = 0;
-      config = record { threads = 4; limit = 500; jobs = 100000 };
-      replies = empty 7 (Done
-          ∷ []);
+          []) 0;
+      config = usual;
+      replies = empty 7 (Done ∷ []);
       trace = (entry.Enq 0 false ∷ entry.Cycle ∷ entry.Job 0 ∷ entry.Monitor 1 0 ∷ entry.Detach 1 ∷ entry.Fill 0 (pos 0) ∷
           entry.Enq 1 false ∷ entry.Enq 2 false ∷ entry.Enq 3 false ∷ entry.Job 1 ∷ entry.Join 2 4 ∷
           entry.Job 2 ∷ entry.Join 3 1 ∷ entry.Job 3 ∷ entry.Error (pos 5) 1 ∷ entry.Caught 1 ∷ entry.Fill 2 (pos 5) ∷
           entry.Enq 4 false ∷ entry.Enq 5 false ∷ entry.Job 4 ∷ entry.Print (pos 1) ∷ entry.Print (pos 5) ∷
           entry.Job 5 ∷ entry.Fill 3 (pos 5) ∷ entry.End ending.Idle ∷ []);
-      asks = drains 7 (ask.Close
-          ∷ []);
+      asks = drains 7 (ask.Close ∷ []);
     }
 
 -- a connection renames a pushback, a flush, and the results of reads that wait for an item and for the end:
@@ -319,7 +285,7 @@ renaming_reaches_monitors =
 abbrev pub renaming_reaches_pipes : Row
 renaming_reaches_pipes =
     record {
-      program =
+      program = without_ask (
           proc (line (stmt.Ivar 0) ∷ line (stmt.Pipe 1 0) ∷ line (stmt.Pipe 2 0) ∷ line (stmt.Pipe 3 0) ∷ line (stmt.Bind 4 0 1 ((Local 1) ∷ [])) ∷
           line (stmt.Bind 5 0 2 ((Local 1) ∷ [])) ∷ line (stmt.Bind 6 0 3 ((Local 2) ∷ [])) ∷ line (stmt.Bind 7 0 3 ((Local 3) ∷ [])) ∷
           line (stmt.Upon 4 7 ((Literal (pos 1)) ∷ [])) ∷ line (stmt.Upon 5 7 ((Literal (pos 2)) ∷ [])) ∷
@@ -334,11 +300,9 @@ renaming_reaches_pipes =
           proc (line (stmt.Read 3 0 4 [] 5 []) ∷ line (stmt.Put 1 (Literal (pos 5))) ∷ line (stmt.Close 2) ∷
           []) ∷
           proc (line (stmt.Print (Local 1)) ∷ line (stmt.Print (Local 0)) ∷ []) ∷
-          [];
-      main = 0;
-      config = record { threads = 4; limit = 500; jobs = 100000 };
-      replies = empty 14 (Done
-          ∷ []);
+          []) 0;
+      config = usual;
+      replies = empty 14 (Done ∷ []);
       trace = (entry.Enq 0 false ∷ entry.Cycle ∷ entry.Job 0 ∷ entry.Fill 0 (pos 0) ∷ entry.Enq 1 false ∷
           entry.Enq 2 false ∷ entry.Enq 3 false ∷ entry.Enq 4 false ∷ entry.Enq 5 false ∷ entry.Job 1 ∷
           entry.Join 1 5 ∷ entry.Job 2 ∷ entry.Join 2 6 ∷ entry.Job 3 ∷ entry.Join 3 7 ∷ entry.Job 4 ∷
@@ -349,8 +313,7 @@ renaming_reaches_pipes =
           entry.Job 10 ∷ entry.Fill 4 (pos 9) ∷ entry.Enq 12 false ∷ entry.Job 11 ∷ entry.Print (pos 3) ∷
           entry.Print (pos 5) ∷ entry.Job 12 ∷ entry.Print (pos 4) ∷ entry.Print (pos 9) ∷ entry.End ending.Idle ∷
           []);
-      asks = drains 14 (ask.Close
-          ∷ []);
+      asks = drains 14 (ask.Close ∷ []);
     }
 
 -- a connection renames the result that an enqueued job returns to:
@@ -359,23 +322,20 @@ renaming_reaches_pipes =
 abbrev pub renaming_reaches_queued_results : Row
 renaming_reaches_queued_results =
     record {
-      program =
+      program = without_ask (
           proc (line (stmt.Ivar 0) ∷ line (stmt.Yield 1) ∷ line (stmt.Bind 2 1 1 ((Local 0) ∷ [])) ∷ line (stmt.Upon 2 3 []) ∷
           []) ∷
           proc (line (stmt.Fill 1 (Literal (pos 1))) ∷ line (stmt.Bind 2 1 2 []) ∷ line (stmt.Ret (Local 2)) ∷
           []) ∷
           proc (line (stmt.Ret (Literal (pos 4))) ∷ []) ∷
           proc (line (stmt.Print (Local 0)) ∷ []) ∷
-          [];
-      main = 0;
-      config = record { threads = 4; limit = 500; jobs = 100000 };
-      replies = empty 6 (Done
-          ∷ []);
+          []) 0;
+      config = usual;
+      replies = empty 6 (Done ∷ []);
       trace = (entry.Enq 0 false ∷ entry.Cycle ∷ entry.Job 0 ∷ entry.Cycle ∷ entry.Fill 1 (pos 0) ∷ entry.Enq 1 false ∷
           entry.Job 1 ∷ entry.Fill 0 (pos 1) ∷ entry.Enq 2 false ∷ entry.Join 2 3 ∷ entry.Job 2 ∷ entry.Fill 2 (pos 4) ∷
           entry.Enq 3 false ∷ entry.Job 3 ∷ entry.Print (pos 4) ∷ entry.End ending.Idle ∷ []);
-      asks = drains 6 (ask.Close
-          ∷ []);
+      asks = drains 6 (ask.Close ∷ []);
     }
 
 -- a connection renames the results of all, any and choose:
@@ -386,7 +346,7 @@ renaming_reaches_queued_results =
 abbrev pub renaming_reaches_results_of_groups : Row
 renaming_reaches_results_of_groups =
     record {
-      program =
+      program = without_ask (
           proc (line (stmt.Ivar 0) ∷ line (stmt.Ivar 1) ∷ line (stmt.Bind 2 0 1 ((Local 1) ∷ [])) ∷ line (stmt.Bind 3 0 2 ((Local 1) ∷ [])) ∷
           line (stmt.Bind 4 0 3 ((Local 1) ∷ [])) ∷ line (stmt.Upon 2 6 ((Literal (pos 1)) ∷ [])) ∷ line (stmt.Upon 3 6 ((Literal (pos 2)) ∷ [])) ∷
           line (stmt.Upon 4 6 ((Literal (pos 3)) ∷ [])) ∷ line (stmt.Fill 0 (Literal (pos 0))) ∷ line (stmt.Sched 5 ((Local 1) ∷ [])) ∷
@@ -397,11 +357,9 @@ renaming_reaches_results_of_groups =
           proc (line (stmt.Ret (Local 0)) ∷ []) ∷
           proc (line (stmt.Fill 0 (Literal (pos 5))) ∷ []) ∷
           proc (line (stmt.Print (Local 1)) ∷ line (stmt.Print (Local 0)) ∷ []) ∷
-          [];
-      main = 0;
-      config = record { threads = 4; limit = 500; jobs = 100000 };
-      replies = empty 12 (Done
-          ∷ []);
+          []) 0;
+      config = usual;
+      replies = empty 12 (Done ∷ []);
       trace = (entry.Enq 0 false ∷ entry.Cycle ∷ entry.Job 0 ∷ entry.Fill 0 (pos 0) ∷ entry.Enq 1 false ∷
           entry.Enq 2 false ∷ entry.Enq 3 false ∷ entry.Enq 4 false ∷ entry.Job 1 ∷ entry.Join 2 5 ∷
           entry.Job 2 ∷ entry.Join 3 6 ∷ entry.Job 3 ∷ entry.Join 4 7 ∷ entry.Job 4 ∷ entry.Fill 1 (pos 5) ∷
@@ -410,8 +368,7 @@ renaming_reaches_results_of_groups =
           entry.Fill 4 (pos 5) ∷ entry.Enq 10 false ∷ entry.Job 8 ∷ entry.Print (pos 1) ∷ entry.Print (pos 5) ∷
           entry.Job 9 ∷ entry.Print (pos 2) ∷ entry.Print (pos 5) ∷ entry.Job 10 ∷ entry.Print (pos 3) ∷
           entry.Print (pos 5) ∷ entry.End ending.Idle ∷ []);
-      asks = drains 12 (ask.Close
-          ∷ []);
+      asks = drains 12 (ask.Close ∷ []);
     }
 
 -- a connection renames the results of bodies that run and that wait, the args of one that waits, and a mark:
@@ -423,7 +380,7 @@ renaming_reaches_results_of_groups =
 abbrev pub renaming_reaches_throttles : Row
 renaming_reaches_throttles =
     record {
-      program =
+      program = without_ask (
           proc (line (stmt.Ivar 0) ∷ line (stmt.Ivar 1) ∷ line (stmt.Ivar 2) ∷ line (stmt.Throttle 3 1 false) ∷
           line (stmt.Bind 4 0 1 ((Local 3) ∷ (Local 1) ∷ [])) ∷ line (stmt.Bind 5 0 2 ((Local 3) ∷ (Local 2) ∷ [])) ∷
           line (stmt.Bind 6 0 3 ((Local 3) ∷ [])) ∷ line (stmt.Bind 7 0 4 ((Local 2) ∷ [])) ∷ line (stmt.Upon 4 8 ((Literal (pos 1)) ∷ [])) ∷
@@ -437,11 +394,9 @@ renaming_reaches_throttles =
           proc (line (stmt.Fill 0 (Literal (pos 6))) ∷ []) ∷
           proc (line (stmt.Fill 0 (Literal (pos 5))) ∷ []) ∷
           proc (line (stmt.Print (Local 1)) ∷ line (stmt.Print (Local 0)) ∷ []) ∷
-          [];
-      main = 0;
-      config = record { threads = 4; limit = 500; jobs = 100000 };
-      replies = empty 13 (Done
-          ∷ []);
+          []) 0;
+      config = usual;
+      replies = empty 13 (Done ∷ []);
       trace = (entry.Enq 0 false ∷ entry.Cycle ∷ entry.Job 0 ∷ entry.Fill 0 (pos 0) ∷ entry.Enq 1 false ∷
           entry.Enq 2 false ∷ entry.Enq 3 false ∷ entry.Enq 4 false ∷ entry.Enq 5 false ∷ entry.Job 1 ∷
           entry.Monitor 1 0 ∷ entry.Detach 1 ∷ entry.Enq 6 false ∷ entry.Join 3 7 ∷ entry.Job 2 ∷ entry.Join 4 8 ∷
@@ -451,8 +406,7 @@ renaming_reaches_throttles =
           entry.Print (pos 5) ∷ entry.Job 9 ∷ entry.Fill 6 (pos 6) ∷ entry.Fill 4 (pos 0) ∷ entry.Enq 10 false ∷
           entry.Fill 5 (pos 0) ∷ entry.Enq 11 false ∷ entry.Job 10 ∷ entry.Print (pos 2) ∷ entry.Print (pos 0) ∷
           entry.Job 11 ∷ entry.Print (pos 3) ∷ entry.Print (pos 0) ∷ entry.End ending.Idle ∷ []);
-      asks = drains 13 (ask.Close
-          ∷ []);
+      asks = drains 13 (ask.Close ∷ []);
     }
 
 -- a connection renames the result of a try, for its number, its deferred and its error:
@@ -463,7 +417,7 @@ renaming_reaches_throttles =
 abbrev pub renaming_reaches_tries : Row
 renaming_reaches_tries =
     record {
-      program =
+      program = without_ask (
           proc (line (stmt.Ivar 0) ∷ line (stmt.Bind 1 0 1 []) ∷ line (stmt.Bind 2 0 2 []) ∷ line (stmt.Bind 3 0 3 []) ∷
           line (stmt.Upon 1 8 ((Literal (pos 1)) ∷ [])) ∷ line (stmt.Upon 2 8 ((Literal (pos 2)) ∷ [])) ∷
           line (stmt.Upon 3 8 ((Literal (pos 3)) ∷ [])) ∷ line (stmt.Fill 0 (Literal (pos 0))) ∷ []) ∷
@@ -475,11 +429,9 @@ renaming_reaches_tries =
           proc (line (stmt.Raise (Literal (pos 6))) ∷ []) ∷
           proc (line (stmt.Ret (Local 0)) ∷ []) ∷
           proc (line (stmt.Print (Local 1)) ∷ line (stmt.Print (Local 0)) ∷ []) ∷
-          [];
-      main = 0;
-      config = record { threads = 4; limit = 500; jobs = 100000 };
-      replies = empty 14 (Done
-          ∷ []);
+          []) 0;
+      config = usual;
+      replies = empty 14 (Done ∷ []);
       trace = (entry.Enq 0 false ∷ entry.Cycle ∷ entry.Job 0 ∷ entry.Fill 0 (pos 0) ∷ entry.Enq 1 false ∷
           entry.Enq 2 false ∷ entry.Enq 3 false ∷ entry.Job 1 ∷ entry.Monitor 1 0 ∷ entry.Detach 1 ∷
           entry.Enq 4 false ∷ entry.Join 1 4 ∷ entry.Job 2 ∷ entry.Monitor 2 0 ∷ entry.Detach 2 ∷ entry.Enq 5 false ∷
@@ -490,8 +442,7 @@ renaming_reaches_tries =
           entry.Print (pos 6) ∷ entry.Cycle ∷ entry.Fill 7 (pos 0) ∷ entry.Enq 10 false ∷ entry.Job 10 ∷
           entry.Fill 2 (pos 0) ∷ entry.Enq 11 false ∷ entry.Job 11 ∷ entry.Print (pos 2) ∷ entry.Print (pos 0) ∷
           entry.End ending.Idle ∷ []);
-      asks = drains 14 (ask.Close
-          ∷ []);
+      asks = drains 14 (ask.Close ∷ []);
     }
 
 -- a connection renames the result of a work:
@@ -500,25 +451,19 @@ renaming_reaches_tries =
 abbrev pub renaming_reaches_works : Row
 renaming_reaches_works =
     record {
-      program =
+      program = without_ask (
           proc (line (stmt.Ivar 0) ∷ line (stmt.Bind 1 0 1 []) ∷ line (stmt.Upon 1 2 []) ∷ line (stmt.Fill 0 (Literal (pos 0))) ∷
           []) ∷
           proc (line (stmt.Work 1 kind.Square (Literal (pos 3))) ∷ line (stmt.Ret (Local 1)) ∷ []) ∷
           proc (line (stmt.Print (Local 0)) ∷ []) ∷
-          [];
-      main = 0;
-      config = record { threads = 4; limit = 500; jobs = 100000 };
-      replies = empty 2 (Done
-          ∷ Pairs ((0, (outcome.Good (pos 9))) ∷ [])
-          ∷ empty 1 (Done
-          ∷ []));
+          []) 0;
+      config = usual;
+      replies = empty 2 (Done ∷ brings ((0, (outcome.Good (pos 9))) ∷ []) ∷ empty 1 (Done ∷ []));
       trace = (entry.Enq 0 false ∷ entry.Cycle ∷ entry.Job 0 ∷ entry.Fill 0 (pos 0) ∷ entry.Enq 1 false ∷
           entry.Job 1 ∷ entry.Submit 0 kind.Square (pos 3) ∷ entry.Join 1 2 ∷ entry.Arrive 0 (outcome.Good (pos 9)) ∷
           entry.Fill 1 (pos 9) ∷ entry.Enq 2 false ∷ entry.Job 2 ∷ entry.Print (pos 9) ∷ entry.End ending.Idle ∷
           []);
-      asks = drains 2 (ask.Submit 0 (record { kind = kind.Square; num = pos 3 }) None
-          ∷ drains 2 (ask.Close
-          ∷ []));
+      asks = drains 2 (ask.Submit 0 (work kind.Square (pos 3)) None ∷ drains 2 (ask.Close ∷ []));
     }
 
 -- a connection renames a yield, an alarm and an event:
@@ -528,7 +473,7 @@ renaming_reaches_works =
 abbrev pub renaming_reaches_yields_and_alarms : Row
 renaming_reaches_yields_and_alarms =
     record {
-      program =
+      program = without_ask (
           proc (line (stmt.Ivar 0) ∷ line (stmt.Bind 1 0 1 []) ∷ line (stmt.Bind 2 0 2 []) ∷ line (stmt.Bind 3 0 3 []) ∷
           line (stmt.Upon 1 5 ((Literal (pos 1)) ∷ [])) ∷ line (stmt.Upon 2 5 ((Literal (pos 2)) ∷ [])) ∷
           line (stmt.Upon 3 5 ((Literal (pos 3)) ∷ [])) ∷ line (stmt.Fill 0 (Literal (pos 0))) ∷ []) ∷
@@ -538,11 +483,9 @@ renaming_reaches_yields_and_alarms =
           []) ∷
           proc (line (stmt.Abort 0) ∷ []) ∷
           proc (line (stmt.Print (Local 1)) ∷ line (stmt.Print (Local 0)) ∷ []) ∷
-          [];
-      main = 0;
-      config = record { threads = 4; limit = 500; jobs = 100000 };
-      replies = empty 10 (Done
-          ∷ []);
+          []) 0;
+      config = usual;
+      replies = empty 10 (Done ∷ []);
       trace = (entry.Enq 0 false ∷ entry.Cycle ∷ entry.Job 0 ∷ entry.Fill 0 (pos 0) ∷ entry.Enq 1 false ∷
           entry.Enq 2 false ∷ entry.Enq 3 false ∷ entry.Job 1 ∷ entry.Join 1 4 ∷ entry.Job 2 ∷ entry.Join 2 5 ∷
           entry.Job 3 ∷ entry.Enq 4 false ∷ entry.Join 3 6 ∷ entry.Job 4 ∷ entry.Fill 3 (pos 1) ∷ entry.Enq 5 false ∷
@@ -550,8 +493,7 @@ renaming_reaches_yields_and_alarms =
           entry.Enq 6 false ∷ entry.Fill 2 (pos 0) ∷ entry.Enq 7 false ∷ entry.Job 6 ∷ entry.Print (pos 1) ∷
           entry.Print (pos 0) ∷ entry.Job 7 ∷ entry.Print (pos 2) ∷ entry.Print (pos 0) ∷ entry.End ending.Idle ∷
           []);
-      asks = drains 10 (ask.Close
-          ∷ []);
+      asks = drains 10 (ask.Close ∷ []);
     }
 
 -- two results that are connected with one deferred are one:
@@ -561,7 +503,7 @@ renaming_reaches_yields_and_alarms =
 abbrev pub two_results_of_one_deferred : Row
 two_results_of_one_deferred =
     record {
-      program =
+      program = without_ask (
           proc (line (stmt.Ivar 0) ∷ line (stmt.Yield 1) ∷ line (stmt.Bind 2 1 1 ((Local 0) ∷ [])) ∷ line (stmt.Bind 3 1 1 ((Local 0) ∷ [])) ∷
           line (stmt.Upon 3 4 []) ∷ line (stmt.Yield 4) ∷ line (stmt.Upon 4 2 ((Local 0) ∷ (Local 2) ∷ (Local 3) ∷ [])) ∷
           []) ∷
@@ -570,16 +512,13 @@ two_results_of_one_deferred =
           []) ∷
           proc (line (stmt.Ret (Local 0)) ∷ []) ∷
           proc (line (stmt.Print (Local 0)) ∷ []) ∷
-          [];
-      main = 0;
-      config = record { threads = 4; limit = 500; jobs = 100000 };
-      replies = empty 9 (Done
-          ∷ []);
+          []) 0;
+      config = usual;
+      replies = empty 9 (Done ∷ []);
       trace = (entry.Enq 0 false ∷ entry.Cycle ∷ entry.Job 0 ∷ entry.Cycle ∷ entry.Fill 1 (pos 0) ∷ entry.Enq 1 false ∷
           entry.Enq 2 false ∷ entry.Fill 4 (pos 0) ∷ entry.Enq 3 false ∷ entry.Job 1 ∷ entry.Join 2 0 ∷
           entry.Job 2 ∷ entry.Join 3 2 ∷ entry.Job 3 ∷ entry.Fill 3 (pos 4) ∷ entry.Enq 4 false ∷ entry.Enq 5 false ∷
           entry.Job 4 ∷ entry.Print (pos 4) ∷ entry.Job 5 ∷ entry.Fill 5 (pos 4) ∷ entry.Enq 6 false ∷
           entry.Job 6 ∷ entry.Print (pos 4) ∷ entry.End ending.Idle ∷ []);
-      asks = drains 9 (ask.Close
-          ∷ []);
+      asks = drains 9 (ask.Close ∷ []);
     }

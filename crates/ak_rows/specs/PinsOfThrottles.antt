@@ -6,7 +6,7 @@ use Rattle.ak_program.specs.declared.statement.NumAtom.TheVariants.{Literal, Loc
 use Rattle.ak_program.specs.declared.statement.NumStmt.TheVariants as stmt
 use Rattle.ak_trace.specs.declared.entry.Entry.TheVariants as entry
 use Rattle.ak_trace.specs.declared.entry.Ending.TheVariants as ending
-use Rattle.ak_rows.specs.Row.{Row, proc, line, empty, drains}
+use Rattle.ak_rows.specs.Row.{Row, usual, without_ask, proc, line, empty, drains}
 
 -- the deferred of a body that has failed is not waited for:
 -- proc main; throttle t 1 go; monitor m; detach m; within m E t; end; proc E t:thr; enqueue a t R; upon a O; end;
@@ -14,24 +14,21 @@ use Rattle.ak_rows.specs.Row.{Row, proc, line, empty, drains}
 abbrev pub body_decided_then_deferred : Row
 body_decided_then_deferred =
     record {
-      program =
+      program = without_ask (
           proc (line (stmt.Throttle 0 1 false) ∷ line (stmt.Monitor 1) ∷ line (stmt.Detach 1) ∷ line (stmt.Within 1 1 ((Local 0) ∷ [])) ∷
           []) ∷
           proc (line (stmt.Enqueue 1 0 2 []) ∷ line (stmt.Upon 1 3 []) ∷ []) ∷
           proc (line (stmt.Monitor 0) ∷ line (stmt.Send 0 (Literal (pos 5))) ∷ line (stmt.Yield 1) ∷ line (stmt.Ret (Local 1)) ∷
           []) ∷
           proc (line (stmt.Print (Local 0)) ∷ []) ∷
-          [];
-      main = 0;
-      config = record { threads = 4; limit = 500; jobs = 100000 };
-      replies = empty 6 (Done
-          ∷ []);
+          []) 0;
+      config = usual;
+      replies = empty 6 (Done ∷ []);
       trace = (entry.Enq 0 false ∷ entry.Cycle ∷ entry.Job 0 ∷ entry.Monitor 1 0 ∷ entry.Detach 1 ∷ entry.Enq 1 false ∷
           entry.Job 1 ∷ entry.Monitor 2 1 ∷ entry.Detach 2 ∷ entry.Enq 2 false ∷ entry.Job 2 ∷ entry.Monitor 3 2 ∷
           entry.Error (pos 5) 3 ∷ entry.Caught 2 ∷ entry.Enq 3 false ∷ entry.Job 3 ∷ entry.Error (pos 5) 1 ∷
           entry.Caught 1 ∷ entry.Cycle ∷ entry.Fill 1 (pos 0) ∷ entry.End ending.Idle ∷ []);
-      asks = drains 6 (ask.Close
-          ∷ []);
+      asks = drains 6 (ask.Close ∷ []);
     }
 
 -- the failing of a body is a job in the context of its enqueue:
@@ -40,7 +37,7 @@ body_decided_then_deferred =
 abbrev pub body_error_in_its_context : Row
 body_error_in_its_context =
     record {
-      program =
+      program = without_ask (
           proc (line (stmt.Throttle 0 1 false) ∷ line (stmt.Monitor 1) ∷ line (stmt.Detach 1) ∷ line (stmt.OnError 1 4 []) ∷
           line (stmt.Within 1 2 ((Local 0) ∷ [])) ∷ line (stmt.Low 1 ((Local 0) ∷ (Local 1) ∷ [])) ∷
           []) ∷
@@ -48,11 +45,9 @@ body_error_in_its_context =
           proc (line (stmt.Enqueue 1 0 3 []) ∷ []) ∷
           proc (line (stmt.Raise (Literal (pos 4))) ∷ []) ∷
           proc (line (stmt.Print (Local 0)) ∷ []) ∷
-          [];
-      main = 0;
-      config = record { threads = 4; limit = 500; jobs = 100000 };
-      replies = empty 11 (Done
-          ∷ []);
+          []) 0;
+      config = usual;
+      replies = empty 11 (Done ∷ []);
       trace = (entry.Enq 0 false ∷ entry.Cycle ∷ entry.Job 0 ∷ entry.Monitor 1 0 ∷ entry.Detach 1 ∷ entry.Enq 1 false ∷
           entry.Enq 2 true ∷ entry.Job 1 ∷ entry.Monitor 2 1 ∷ entry.Detach 2 ∷ entry.Enq 3 false ∷ entry.Job 3 ∷
           entry.Error (pos 4) 2 ∷ entry.Caught 2 ∷ entry.Enq 4 false ∷ entry.Job 4 ∷ entry.Error (pos 4) 1 ∷
@@ -60,8 +55,7 @@ body_error_in_its_context =
           entry.Job 6 ∷ entry.Monitor 3 1 ∷ entry.Detach 3 ∷ entry.Enq 7 true ∷ entry.Job 7 ∷ entry.Error (pos 4) 3 ∷
           entry.Caught 3 ∷ entry.Enq 8 true ∷ entry.Job 8 ∷ entry.Error (pos 4) 1 ∷ entry.Caught 1 ∷
           entry.Enq 9 false ∷ entry.Job 9 ∷ entry.Print (pos 4) ∷ entry.End ending.Idle ∷ []);
-      asks = drains 11 (ask.Close
-          ∷ []);
+      asks = drains 11 (ask.Close ∷ []);
     }
 
 -- a body fails once, later errors of it are noted alone, and its number is dropped:
@@ -71,7 +65,7 @@ body_error_in_its_context =
 abbrev pub body_fails_once : Row
 body_fails_once =
     record {
-      program =
+      program = without_ask (
           proc (line (stmt.Throttle 0 1 false) ∷ line (stmt.Monitor 1) ∷ line (stmt.Detach 1) ∷ line (stmt.Within 1 1 ((Local 0) ∷ [])) ∷
           []) ∷
           proc (line (stmt.Enqueue 1 0 2 []) ∷ line (stmt.Enqueue 2 0 4 []) ∷ line (stmt.Upon 1 5 []) ∷ line (stmt.Upon 2 5 []) ∷
@@ -81,11 +75,9 @@ body_fails_once =
           proc (line (stmt.Raise (Literal (pos 8))) ∷ []) ∷
           proc (line (stmt.Ret (Literal (pos 1))) ∷ []) ∷
           proc (line (stmt.Print (Local 0)) ∷ []) ∷
-          [];
-      main = 0;
-      config = record { threads = 4; limit = 500; jobs = 100000 };
-      replies = empty 8 (Done
-          ∷ []);
+          []) 0;
+      config = usual;
+      replies = empty 8 (Done ∷ []);
       trace = (entry.Enq 0 false ∷ entry.Cycle ∷ entry.Job 0 ∷ entry.Monitor 1 0 ∷ entry.Detach 1 ∷ entry.Enq 1 false ∷
           entry.Job 1 ∷ entry.Monitor 2 1 ∷ entry.Detach 2 ∷ entry.Enq 2 false ∷ entry.Job 2 ∷ entry.Monitor 3 2 ∷
           entry.Enq 3 false ∷ entry.Error (pos 5) 3 ∷ entry.Caught 2 ∷ entry.Enq 4 false ∷ entry.Error (pos 6) 3 ∷
@@ -93,8 +85,7 @@ body_fails_once =
           entry.Rest (pos 8) ∷ entry.Job 4 ∷ entry.Monitor 4 1 ∷ entry.Detach 4 ∷ entry.Enq 5 false ∷
           entry.Error (pos 5) 1 ∷ entry.Caught 1 ∷ entry.Job 5 ∷ entry.Fill 1 (pos 1) ∷ entry.Enq 6 false ∷
           entry.Job 6 ∷ entry.Print (pos 1) ∷ entry.End ending.Idle ∷ []);
-      asks = drains 8 (ask.Close
-          ∷ []);
+      asks = drains 8 (ask.Close ∷ []);
     }
 
 -- enqueue on a dead throttle raises -5 and draws nothing, one before the failing job does not:
@@ -104,7 +95,7 @@ body_fails_once =
 abbrev pub dead_throttle : Row
 dead_throttle =
     record {
-      program =
+      program = without_ask (
           proc (line (stmt.Throttle 0 1 true) ∷ line (stmt.Monitor 1) ∷ line (stmt.Detach 1) ∷ line (stmt.Within 1 1 ((Local 0) ∷ [])) ∷
           []) ∷
           proc (line (stmt.Enqueue 1 0 2 ((Local 0) ∷ [])) ∷ line (stmt.Yield 2) ∷ line (stmt.Upon 2 5 ((Local 0) ∷ [])) ∷
@@ -116,11 +107,9 @@ dead_throttle =
           []) ∷
           proc (line (stmt.Enqueue 1 0 4 []) ∷ []) ∷
           proc (line (stmt.Ivar 0) ∷ line (stmt.Fill 0 (Literal (pos 2))) ∷ []) ∷
-          [];
-      main = 0;
-      config = record { threads = 4; limit = 500; jobs = 100000 };
-      replies = empty 11 (Done
-          ∷ []);
+          []) 0;
+      config = usual;
+      replies = empty 11 (Done ∷ []);
       trace = (entry.Enq 0 false ∷ entry.Cycle ∷ entry.Job 0 ∷ entry.Monitor 1 0 ∷ entry.Detach 1 ∷ entry.Enq 1 false ∷
           entry.Job 1 ∷ entry.Monitor 2 1 ∷ entry.Detach 2 ∷ entry.Enq 2 false ∷ entry.Job 2 ∷ entry.Enq 3 false ∷
           entry.Error (pos 9) 2 ∷ entry.Caught 2 ∷ entry.Enq 4 false ∷ entry.Job 3 ∷ entry.Job 4 ∷ entry.Enq 5 false ∷
@@ -128,8 +117,7 @@ dead_throttle =
           entry.Rest (negsuc 5) ∷ entry.Cycle ∷ entry.Fill 1 (pos 0) ∷ entry.Enq 6 false ∷ entry.Job 6 ∷
           entry.Monitor 3 1 ∷ entry.Enq 7 false ∷ entry.Enq 8 false ∷ entry.Job 7 ∷ entry.Error (negsuc 4) 3 ∷
           entry.Caught 1 ∷ entry.Job 8 ∷ entry.Fill 3 (pos 2) ∷ entry.End ending.Idle ∷ []);
-      asks = drains 11 (ask.Close
-          ∷ []);
+      asks = drains 11 (ask.Close ∷ []);
     }
 
 -- an error of a body that has ended is noted alone:
@@ -138,25 +126,22 @@ dead_throttle =
 abbrev pub error_after_the_end_of_a_body : Row
 error_after_the_end_of_a_body =
     record {
-      program =
+      program = without_ask (
           proc (line (stmt.Throttle 0 1 true) ∷ line (stmt.Enqueue 1 0 1 []) ∷ line (stmt.Enqueue 2 0 3 []) ∷
           line (stmt.Upon 2 4 []) ∷ []) ∷
           proc (line (stmt.Sched 2 []) ∷ line (stmt.Ret (Literal (pos 3))) ∷ []) ∷
           proc (line (stmt.Raise (Literal (pos 8))) ∷ []) ∷
           proc (line (stmt.Ret (Literal (pos 1))) ∷ []) ∷
           proc (line (stmt.Print (Local 0)) ∷ []) ∷
-          [];
-      main = 0;
-      config = record { threads = 4; limit = 500; jobs = 100000 };
-      replies = empty 6 (Done
-          ∷ []);
+          []) 0;
+      config = usual;
+      replies = empty 6 (Done ∷ []);
       trace = (entry.Enq 0 false ∷ entry.Cycle ∷ entry.Job 0 ∷ entry.Monitor 1 0 ∷ entry.Detach 1 ∷ entry.Enq 1 false ∷
           entry.Job 1 ∷ entry.Enq 2 false ∷ entry.Fill 0 (pos 3) ∷ entry.Monitor 2 0 ∷ entry.Detach 2 ∷
           entry.Enq 3 false ∷ entry.Job 2 ∷ entry.Error (pos 8) 1 ∷ entry.Caught 1 ∷ entry.Rest (pos 8) ∷
           entry.Job 3 ∷ entry.Fill 1 (pos 1) ∷ entry.Enq 4 false ∷ entry.Job 4 ∷ entry.Print (pos 1) ∷
           entry.End ending.Idle ∷ []);
-      asks = drains 6 (ask.Close
-          ∷ []);
+      asks = drains 6 (ask.Close ∷ []);
     }
 
 -- in mode stop a failing body drops those that wait, front first, each with -6 in the context of its enqueue; then
@@ -168,7 +153,7 @@ error_after_the_end_of_a_body =
 abbrev pub failing_body_stop : Row
 failing_body_stop =
     record {
-      program =
+      program = without_ask (
           proc (line (stmt.Throttle 0 1 true) ∷ line (stmt.Monitor 1) ∷ line (stmt.Detach 1) ∷ line (stmt.OnError 1 6 ((Literal (pos 9)) ∷ [])) ∷
           line (stmt.Within 1 1 ((Local 0) ∷ [])) ∷ []) ∷
           proc (line (stmt.Enqueue 1 0 3 []) ∷ line (stmt.Low 2 ((Local 0) ∷ [])) ∷ line (stmt.ThrottleDone 2 0) ∷
@@ -180,11 +165,9 @@ failing_body_stop =
           proc (line (stmt.Raise (Literal (pos 4))) ∷ []) ∷
           proc (line (stmt.Print (Literal (pos 5))) ∷ line (stmt.Ret (Literal (pos 1))) ∷ []) ∷
           proc (line (stmt.Print (Local 1)) ∷ line (stmt.Print (Local 0)) ∷ []) ∷
-          [];
-      main = 0;
-      config = record { threads = 4; limit = 500; jobs = 100000 };
-      replies = empty 16 (Done
-          ∷ []);
+          []) 0;
+      config = usual;
+      replies = empty 16 (Done ∷ []);
       trace = (entry.Enq 0 false ∷ entry.Cycle ∷ entry.Job 0 ∷ entry.Monitor 1 0 ∷ entry.Detach 1 ∷ entry.Enq 1 false ∷
           entry.Job 1 ∷ entry.Monitor 2 1 ∷ entry.Detach 2 ∷ entry.Enq 2 false ∷ entry.Enq 3 true ∷ entry.Job 2 ∷
           entry.Job 3 ∷ entry.Cycle ∷ entry.Fill 4 (pos 0) ∷ entry.Enq 4 false ∷ entry.Enq 5 false ∷
@@ -196,8 +179,7 @@ failing_body_stop =
           entry.Print (pos 9) ∷ entry.Print (pos 4) ∷ entry.Job 12 ∷ entry.Print (pos 9) ∷ entry.Print (negsuc 5) ∷
           entry.Job 8 ∷ entry.Error (negsuc 5) 1 ∷ entry.Caught 1 ∷ entry.Enq 13 false ∷ entry.Job 13 ∷
           entry.Print (pos 9) ∷ entry.Print (negsuc 5) ∷ entry.End ending.Idle ∷ []);
-      asks = drains 16 (ask.Close
-          ∷ []);
+      asks = drains 16 (ask.Close ∷ []);
     }
 
 -- a mark waits for the bodies before it, for all of them and for no others; where a body ends the front waiting one
@@ -208,7 +190,7 @@ failing_body_stop =
 abbrev pub mark_of_the_bodies_before : Row
 mark_of_the_bodies_before =
     record {
-      program =
+      program = without_ask (
           proc (line (stmt.Throttle 0 2 false) ∷ line (stmt.Enqueue 1 0 1 []) ∷ line (stmt.ThrottleDone 2 0) ∷
           line (stmt.Enqueue 3 0 2 []) ∷ line (stmt.Enqueue 4 0 2 []) ∷ line (stmt.ThrottleDone 5 0) ∷
           line (stmt.Enqueue 6 0 3 []) ∷ line (stmt.Enqueue 7 0 2 []) ∷ line (stmt.Upon 2 4 ((Literal (pos 1)) ∷ [])) ∷
@@ -217,11 +199,9 @@ mark_of_the_bodies_before =
           proc (line (stmt.Ret (Literal (pos 1))) ∷ []) ∷
           proc (line (stmt.Never 0) ∷ line (stmt.Ret (Local 0)) ∷ []) ∷
           proc (line (stmt.Print (Local 1)) ∷ line (stmt.Print (Local 0)) ∷ []) ∷
-          [];
-      main = 0;
-      config = record { threads = 4; limit = 500; jobs = 100000 };
-      replies = empty 11 (Done
-          ∷ []);
+          []) 0;
+      config = usual;
+      replies = empty 11 (Done ∷ []);
       trace = (entry.Enq 0 false ∷ entry.Cycle ∷ entry.Job 0 ∷ entry.Monitor 1 0 ∷ entry.Detach 1 ∷ entry.Enq 1 false ∷
           entry.Monitor 2 0 ∷ entry.Detach 2 ∷ entry.Enq 2 false ∷ entry.Job 1 ∷ entry.Job 2 ∷ entry.Fill 2 (pos 1) ∷
           entry.Monitor 3 0 ∷ entry.Detach 3 ∷ entry.Enq 3 false ∷ entry.Job 3 ∷ entry.Fill 3 (pos 1) ∷
@@ -230,8 +210,7 @@ mark_of_the_bodies_before =
           entry.Enq 6 false ∷ entry.Fill 1 (pos 0) ∷ entry.Enq 7 false ∷ entry.Fill 4 (pos 0) ∷ entry.Enq 8 false ∷
           entry.Job 6 ∷ entry.Fill 6 (pos 1) ∷ entry.Job 7 ∷ entry.Print (pos 1) ∷ entry.Print (pos 0) ∷
           entry.Job 8 ∷ entry.Print (pos 2) ∷ entry.Print (pos 0) ∷ entry.End ending.Idle ∷ []);
-      asks = drains 11 (ask.Close
-          ∷ []);
+      asks = drains 11 (ask.Close ∷ []);
     }
 
 -- after an end and a failure in mode go one waiting body each starts, and as many bodies run as before; all this in
@@ -243,7 +222,7 @@ mark_of_the_bodies_before =
 abbrev pub room_after_ends_and_failures : Row
 room_after_ends_and_failures =
     record {
-      program =
+      program = without_ask (
           proc (line (stmt.Throttle 0 2 false) ∷ line (stmt.Monitor 1) ∷ line (stmt.Detach 1) ∷ line (stmt.Monitor 2) ∷
           line (stmt.Low 1 ((Local 0) ∷ (Local 1) ∷ [])) ∷ []) ∷
           proc (line (stmt.Within 1 2 ((Local 0) ∷ [])) ∷ []) ∷
@@ -255,11 +234,9 @@ room_after_ends_and_failures =
           proc (line (stmt.Never 0) ∷ line (stmt.Ret (Local 0)) ∷ []) ∷
           proc (line (stmt.Yield 2) ∷ line (stmt.Upon 2 7 ((Local 1) ∷ [])) ∷ []) ∷
           proc (line (stmt.Enqueue 2 1 4 []) ∷ line (stmt.Print (Literal (pos 1))) ∷ []) ∷
-          [];
-      main = 0;
-      config = record { threads = 4; limit = 500; jobs = 100000 };
-      replies = empty 14 (Done
-          ∷ []);
+          []) 0;
+      config = usual;
+      replies = empty 14 (Done ∷ []);
       trace = (entry.Enq 0 false ∷ entry.Cycle ∷ entry.Job 0 ∷ entry.Monitor 1 0 ∷ entry.Detach 1 ∷ entry.Monitor 2 0 ∷
           entry.Enq 1 true ∷ entry.Job 1 ∷ entry.Enq 2 true ∷ entry.Job 2 ∷ entry.Monitor 3 1 ∷ entry.Detach 3 ∷
           entry.Enq 3 true ∷ entry.Monitor 4 1 ∷ entry.Detach 4 ∷ entry.Enq 4 true ∷ entry.Job 3 ∷ entry.Error (pos 5) 3 ∷
@@ -268,6 +245,5 @@ room_after_ends_and_failures =
           entry.Enq 7 true ∷ entry.Fill 6 (pos 0) ∷ entry.Enq 8 true ∷ entry.Job 7 ∷ entry.Job 8 ∷ entry.Fill 1 (pos 0) ∷
           entry.Monitor 6 1 ∷ entry.Detach 6 ∷ entry.Enq 9 true ∷ entry.Job 9 ∷ entry.Cycle ∷ entry.Fill 8 (pos 0) ∷
           entry.Enq 10 true ∷ entry.Job 10 ∷ entry.Print (pos 1) ∷ entry.End ending.Idle ∷ []);
-      asks = drains 14 (ask.Close
-          ∷ []);
+      asks = drains 14 (ask.Close ∷ []);
     }

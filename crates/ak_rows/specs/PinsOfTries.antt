@@ -7,7 +7,7 @@ use Rattle.ak_program.specs.declared.statement.NumAtom.TheVariants.{Literal, Loc
 use Rattle.ak_program.specs.declared.statement.NumStmt.TheVariants as stmt
 use Rattle.ak_trace.specs.declared.entry.Entry.TheVariants as entry
 use Rattle.ak_trace.specs.declared.entry.Ending.TheVariants as ending
-use Rattle.ak_rows.specs.Row.{Row, proc, line, empty, drains}
+use Rattle.ak_rows.specs.Row.{Row, usual, without_ask, proc, line, empty, drains}
 
 -- it is attached as a deferred decides, before the fill, not before:
 -- async 2; proc main; monitor m; detach m; within m T; end; proc T; try r B else K rest raise; upon r O; end; proc B;
@@ -16,7 +16,7 @@ use Rattle.ak_rows.specs.Row.{Row, proc, line, empty, drains}
 abbrev pub attach_at_a_deferred : Row
 attach_at_a_deferred =
     record {
-      program =
+      program = without_ask (
           proc (line (stmt.Monitor 0) ∷ line (stmt.Detach 0) ∷ line (stmt.Within 0 1 []) ∷ []) ∷
           proc (line (stmt.Try 0 2 [] 6 [] mode.Raise) ∷ line (stmt.Upon 0 7 []) ∷ []) ∷
           proc (line (stmt.Yield 0) ∷ line (stmt.Upon 0 4 []) ∷ line (stmt.Sched 3 []) ∷ line (stmt.Ret (Local 0)) ∷
@@ -26,19 +26,16 @@ attach_at_a_deferred =
           proc (line (stmt.Raise (Literal (pos 3))) ∷ []) ∷
           proc (line (stmt.Ret (Local 0)) ∷ []) ∷
           proc (line (stmt.Print (Local 0)) ∷ []) ∷
-          [];
-      main = 0;
-      config = record { threads = 4; limit = 500; jobs = 100000 };
-      replies = empty 11 (Done
-          ∷ []);
+          []) 0;
+      config = usual;
+      replies = empty 11 (Done ∷ []);
       trace = (entry.Enq 0 false ∷ entry.Cycle ∷ entry.Job 0 ∷ entry.Monitor 1 0 ∷ entry.Detach 1 ∷ entry.Enq 1 false ∷
           entry.Job 1 ∷ entry.Monitor 2 1 ∷ entry.Detach 2 ∷ entry.Enq 2 false ∷ entry.Job 2 ∷ entry.Enq 3 false ∷
           entry.Job 3 ∷ entry.Print (pos 2) ∷ entry.Cycle ∷ entry.Fill 1 (pos 0) ∷ entry.Enq 4 false ∷
           entry.Enq 5 false ∷ entry.Job 4 ∷ entry.Job 5 ∷ entry.Attach 2 ∷ entry.Fill 0 (pos 0) ∷ entry.Enq 6 false ∷
           entry.Job 6 ∷ entry.Print (pos 0) ∷ entry.Cycle ∷ entry.Fill 2 (pos 0) ∷ entry.Enq 7 false ∷
           entry.Job 7 ∷ entry.Error (pos 3) 2 ∷ entry.Caught 1 ∷ entry.End ending.Idle ∷ []);
-      asks = drains 11 (ask.Close
-          ∷ []);
+      asks = drains 11 (ask.Close ∷ []);
     }
 
 -- it is attached as a number decides, before the fill:
@@ -48,7 +45,7 @@ attach_at_a_deferred =
 abbrev pub attach_at_a_number : Row
 attach_at_a_number =
     record {
-      program =
+      program = without_ask (
           proc (line (stmt.Monitor 0) ∷ line (stmt.Detach 0) ∷ line (stmt.OnError 0 5 []) ∷ line (stmt.Within 0 1 []) ∷
           []) ∷
           proc (line (stmt.Try 0 2 [] 4 [] mode.Raise) ∷ line (stmt.Upon 0 6 []) ∷ []) ∷
@@ -57,18 +54,15 @@ attach_at_a_number =
           proc (line (stmt.Ret (Local 0)) ∷ []) ∷
           proc (line (stmt.Print (Local 0)) ∷ []) ∷
           proc (line (stmt.Print (Local 0)) ∷ []) ∷
-          [];
-      main = 0;
-      config = record { threads = 4; limit = 500; jobs = 100000 };
-      replies = empty 7 (Done
-          ∷ []);
+          []) 0;
+      config = usual;
+      replies = empty 7 (Done ∷ []);
       trace = (entry.Enq 0 false ∷ entry.Cycle ∷ entry.Job 0 ∷ entry.Monitor 1 0 ∷ entry.Detach 1 ∷ entry.Enq 1 false ∷
           entry.Job 1 ∷ entry.Monitor 2 1 ∷ entry.Detach 2 ∷ entry.Enq 2 false ∷ entry.Job 2 ∷ entry.Enq 3 false ∷
           entry.Attach 2 ∷ entry.Fill 0 (pos 8) ∷ entry.Enq 4 false ∷ entry.Job 3 ∷ entry.Error (pos 3) 2 ∷
           entry.Caught 1 ∷ entry.Enq 5 false ∷ entry.Job 4 ∷ entry.Print (pos 8) ∷ entry.Job 5 ∷ entry.Print (pos 3) ∷
           entry.End ending.Idle ∷ []);
-      asks = drains 7 (ask.Close
-          ∷ []);
+      asks = drains 7 (ask.Close ∷ []);
     }
 
 -- with rest raise the monitor is attached as the first error decides, the second goes up:
@@ -77,23 +71,20 @@ attach_at_a_number =
 abbrev pub attach_at_an_error : Row
 attach_at_an_error =
     record {
-      program =
+      program = without_ask (
           proc (line (stmt.Try 0 1 [] 3 [] mode.Raise) ∷ line (stmt.Upon 0 4 []) ∷ []) ∷
           proc (line (stmt.Sched 2 []) ∷ line (stmt.Raise (Literal (pos 4))) ∷ []) ∷
           proc (line (stmt.Raise (Literal (pos 3))) ∷ []) ∷
           proc (line (stmt.Ret (Local 0)) ∷ []) ∷
           proc (line (stmt.Print (Local 0)) ∷ []) ∷
-          [];
-      main = 0;
-      config = record { threads = 4; limit = 500; jobs = 100000 };
-      replies = empty 3 (Done
-          ∷ []);
+          []) 0;
+      config = usual;
+      replies = empty 3 (Done ∷ []);
       trace = (entry.Enq 0 false ∷ entry.Cycle ∷ entry.Job 0 ∷ entry.Monitor 1 0 ∷ entry.Detach 1 ∷ entry.Enq 1 false ∷
           entry.Job 1 ∷ entry.Enq 2 false ∷ entry.Error (pos 4) 1 ∷ entry.Caught 1 ∷ entry.Attach 1 ∷
           entry.Enq 3 false ∷ entry.Job 2 ∷ entry.Error (pos 3) 1 ∷ entry.Unhandled (pos 3) ∷ entry.End ending.Unhandled ∷
           []);
-      asks = drains 3 (ask.Close
-          ∷ []);
+      asks = drains 3 (ask.Close ∷ []);
     }
 
 -- a body that has sent an error to its own monitor returns for nothing:
@@ -102,7 +93,7 @@ attach_at_an_error =
 abbrev pub try_decided_before_its_body_returns : Row
 try_decided_before_its_body_returns =
     record {
-      program =
+      program = without_ask (
           proc (line (stmt.Try 0 1 [] 3 [] mode.Drop) ∷ line (stmt.Upon 0 4 []) ∷ line (stmt.Try 1 2 [] 3 [] mode.Drop) ∷
           line (stmt.Upon 1 4 []) ∷ []) ∷
           proc (line (stmt.Monitor 0) ∷ line (stmt.Send 0 (Literal (pos 5))) ∷ line (stmt.Ret (Literal (pos 2))) ∷
@@ -111,11 +102,9 @@ try_decided_before_its_body_returns =
           []) ∷
           proc (line (stmt.Ret (Local 0)) ∷ []) ∷
           proc (line (stmt.Print (Local 0)) ∷ []) ∷
-          [];
-      main = 0;
-      config = record { threads = 4; limit = 500; jobs = 100000 };
-      replies = empty 9 (Done
-          ∷ []);
+          []) 0;
+      config = usual;
+      replies = empty 9 (Done ∷ []);
       trace = (entry.Enq 0 false ∷ entry.Cycle ∷ entry.Job 0 ∷ entry.Monitor 1 0 ∷ entry.Detach 1 ∷ entry.Enq 1 false ∷
           entry.Monitor 2 0 ∷ entry.Detach 2 ∷ entry.Enq 2 false ∷ entry.Job 1 ∷ entry.Monitor 3 1 ∷
           entry.Error (pos 5) 3 ∷ entry.Caught 1 ∷ entry.Enq 3 false ∷ entry.Job 2 ∷ entry.Monitor 4 2 ∷
@@ -123,8 +112,7 @@ try_decided_before_its_body_returns =
           entry.Enq 5 false ∷ entry.Job 4 ∷ entry.Fill 1 (pos 6) ∷ entry.Enq 6 false ∷ entry.Job 5 ∷
           entry.Print (pos 5) ∷ entry.Job 6 ∷ entry.Print (pos 6) ∷ entry.Cycle ∷ entry.Fill 2 (pos 0) ∷
           entry.End ending.Idle ∷ []);
-      asks = drains 9 (ask.Close
-          ∷ []);
+      asks = drains 9 (ask.Close ∷ []);
     }
 
 -- the job of a full deferred decides the try, an error after it is noted alone:
@@ -133,25 +121,22 @@ try_decided_before_its_body_returns =
 abbrev pub try_done_decides : Row
 try_done_decides =
     record {
-      program =
+      program = without_ask (
           proc (line (stmt.Try 0 1 [] 4 [] mode.Drop) ∷ line (stmt.Upon 0 5 []) ∷ []) ∷
           proc (line (stmt.Yield 0) ∷ line (stmt.Upon 0 2 []) ∷ line (stmt.Ret (Local 0)) ∷ []) ∷
           proc (line (stmt.Yield 1) ∷ line (stmt.Upon 1 3 []) ∷ []) ∷
           proc (line (stmt.Raise (Literal (pos 3))) ∷ []) ∷
           proc (line (stmt.Ret (Local 0)) ∷ []) ∷
           proc (line (stmt.Print (Local 0)) ∷ []) ∷
-          [];
-      main = 0;
-      config = record { threads = 4; limit = 500; jobs = 100000 };
-      replies = empty 9 (Done
-          ∷ []);
+          []) 0;
+      config = usual;
+      replies = empty 9 (Done ∷ []);
       trace = (entry.Enq 0 false ∷ entry.Cycle ∷ entry.Job 0 ∷ entry.Monitor 1 0 ∷ entry.Detach 1 ∷ entry.Enq 1 false ∷
           entry.Job 1 ∷ entry.Cycle ∷ entry.Fill 1 (pos 0) ∷ entry.Enq 2 false ∷ entry.Enq 3 false ∷
           entry.Job 2 ∷ entry.Job 3 ∷ entry.Fill 0 (pos 0) ∷ entry.Enq 4 false ∷ entry.Job 4 ∷ entry.Print (pos 0) ∷
           entry.Cycle ∷ entry.Fill 2 (pos 0) ∷ entry.Enq 5 false ∷ entry.Job 5 ∷ entry.Error (pos 3) 1 ∷
           entry.Caught 1 ∷ entry.Rest (pos 3) ∷ entry.End ending.Idle ∷ []);
-      asks = drains 9 (ask.Close
-          ∷ []);
+      asks = drains 9 (ask.Close ∷ []);
     }
 
 -- the body of a try runs below its monitor in its priority; the other procedure and the taking of a deferred have the
@@ -162,7 +147,7 @@ try_done_decides =
 abbrev pub try_in_its_monitor_and_priority : Row
 try_in_its_monitor_and_priority =
     record {
-      program =
+      program = without_ask (
           proc (line (stmt.Monitor 0) ∷ line (stmt.Detach 0) ∷ line (stmt.Low 1 ((Local 0) ∷ [])) ∷ []) ∷
           proc (line (stmt.Within 0 2 []) ∷ []) ∷
           proc (line (stmt.Monitor 0) ∷ line (stmt.Try 1 3 [] 6 [] mode.Drop) ∷ line (stmt.Try 2 4 [] 6 [] mode.Drop) ∷
@@ -172,11 +157,9 @@ try_in_its_monitor_and_priority =
           proc (line (stmt.Raise (Literal (pos 4))) ∷ []) ∷
           proc (line (stmt.Raise (Literal (pos 6))) ∷ []) ∷
           proc (line (stmt.Print (Local 0)) ∷ []) ∷
-          [];
-      main = 0;
-      config = record { threads = 4; limit = 500; jobs = 100000 };
-      replies = empty 11 (Done
-          ∷ []);
+          []) 0;
+      config = usual;
+      replies = empty 11 (Done ∷ []);
       trace = (entry.Enq 0 false ∷ entry.Cycle ∷ entry.Job 0 ∷ entry.Monitor 1 0 ∷ entry.Detach 1 ∷ entry.Enq 1 true ∷
           entry.Job 1 ∷ entry.Enq 2 true ∷ entry.Job 2 ∷ entry.Monitor 2 1 ∷ entry.Monitor 3 1 ∷ entry.Detach 3 ∷
           entry.Enq 3 true ∷ entry.Monitor 4 1 ∷ entry.Detach 4 ∷ entry.Enq 4 true ∷ entry.Job 3 ∷ entry.Job 4 ∷
@@ -184,8 +167,7 @@ try_in_its_monitor_and_priority =
           entry.Job 5 ∷ entry.Error (pos 4) 3 ∷ entry.Caught 3 ∷ entry.Enq 7 true ∷ entry.Job 6 ∷ entry.Fill 1 (pos 0) ∷
           entry.Enq 8 true ∷ entry.Job 7 ∷ entry.Error (pos 6) 1 ∷ entry.Caught 1 ∷ entry.Job 8 ∷ entry.Print (pos 0) ∷
           entry.End ending.Idle ∷ []);
-      asks = drains 11 (ask.Close
-          ∷ []);
+      asks = drains 11 (ask.Close ∷ []);
     }
 
 -- the monitor of a try is below that of the job, and the body runs in it:
@@ -194,24 +176,21 @@ try_in_its_monitor_and_priority =
 abbrev pub try_monitor_below : Row
 try_monitor_below =
     record {
-      program =
+      program = without_ask (
           proc (line (stmt.Monitor 0) ∷ line (stmt.Detach 0) ∷ line (stmt.NextError 1 0) ∷ line (stmt.Within 0 1 []) ∷
           []) ∷
           proc (line (stmt.Try 0 2 [] 4 [] mode.Drop) ∷ []) ∷
           proc (line (stmt.Monitor 0) ∷ line (stmt.Within 0 3 []) ∷ []) ∷
           proc (line (stmt.Raise (Literal (pos 3))) ∷ []) ∷
           proc (line (stmt.Raise (Literal (pos 4))) ∷ []) ∷
-          [];
-      main = 0;
-      config = record { threads = 4; limit = 500; jobs = 100000 };
-      replies = empty 5 (Done
-          ∷ []);
+          []) 0;
+      config = usual;
+      replies = empty 5 (Done ∷ []);
       trace = (entry.Enq 0 false ∷ entry.Cycle ∷ entry.Job 0 ∷ entry.Monitor 1 0 ∷ entry.Detach 1 ∷ entry.Enq 1 false ∷
           entry.Job 1 ∷ entry.Monitor 2 1 ∷ entry.Detach 2 ∷ entry.Enq 2 false ∷ entry.Job 2 ∷ entry.Monitor 3 2 ∷
           entry.Enq 3 false ∷ entry.Fill 1 (pos 0) ∷ entry.Job 3 ∷ entry.Error (pos 3) 3 ∷ entry.Caught 2 ∷
           entry.Rest (pos 3) ∷ entry.End ending.Idle ∷ []);
-      asks = drains 5 (ask.Close
-          ∷ []);
+      asks = drains 5 (ask.Close ∷ []);
     }
 
 -- the first error of the body calls the other procedure, later ones are noted alone:
@@ -220,23 +199,20 @@ try_monitor_below =
 abbrev pub try_takes_the_first_error : Row
 try_takes_the_first_error =
     record {
-      program =
+      program = without_ask (
           proc (line (stmt.Try 0 1 [] 3 ((Literal (pos 100)) ∷ []) mode.Drop) ∷ line (stmt.Upon 0 4 []) ∷ []) ∷
           proc (line (stmt.Sched 2 []) ∷ line (stmt.Raise (Literal (pos 4))) ∷ []) ∷
           proc (line (stmt.Raise (Literal (pos 3))) ∷ []) ∷
           proc (line (stmt.Print (Local 0)) ∷ line (stmt.Print (Local 1)) ∷ line (stmt.Ret (Literal (pos 9))) ∷
           []) ∷
           proc (line (stmt.Print (Local 0)) ∷ []) ∷
-          [];
-      main = 0;
-      config = record { threads = 4; limit = 500; jobs = 100000 };
-      replies = empty 6 (Done
-          ∷ []);
+          []) 0;
+      config = usual;
+      replies = empty 6 (Done ∷ []);
       trace = (entry.Enq 0 false ∷ entry.Cycle ∷ entry.Job 0 ∷ entry.Monitor 1 0 ∷ entry.Detach 1 ∷ entry.Enq 1 false ∷
           entry.Job 1 ∷ entry.Enq 2 false ∷ entry.Error (pos 4) 1 ∷ entry.Caught 1 ∷ entry.Enq 3 false ∷
           entry.Job 2 ∷ entry.Error (pos 3) 1 ∷ entry.Caught 1 ∷ entry.Rest (pos 3) ∷ entry.Job 3 ∷ entry.Print (pos 4) ∷
           entry.Print (pos 100) ∷ entry.Fill 0 (pos 9) ∷ entry.Enq 4 false ∷ entry.Job 4 ∷ entry.Print (pos 9) ∷
           entry.End ending.Idle ∷ []);
-      asks = drains 6 (ask.Close
-          ∷ []);
+      asks = drains 6 (ask.Close ∷ []);
     }

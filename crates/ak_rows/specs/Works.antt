@@ -3,14 +3,14 @@ use Rattle.std.specs.Prelude.{pos, negsuc, List, [], ◌∷◌, true, false}
 use Rattle.ak_labor.specs.declared.ask.Ask.TheVariants as ask
 use Rattle.ak_labor.specs.declared.work.Outcome.TheVariants as outcome
 use Rattle.ak_labor.specs.declared.work.WorkKind.TheVariants as kind
-use Rattle.ak_labor.specs.Calls.{Pairs, Granted, Done}
+use Rattle.ak_labor.specs.Calls.{Granted, Done}
 use Rattle.ak_program.specs.declared.statement.NumAtom.TheVariants.{Literal, Local}
 use Rattle.ak_program.specs.declared.statement.NumStmt.TheVariants as stmt
 use Rattle.ak_program.specs.declared.program.NumProc.{NumProc}
 use Rattle.ak_trace.specs.declared.entry.Entry.{Entry}
 use Rattle.ak_trace.specs.declared.entry.Entry.TheVariants as entry
 use Rattle.ak_trace.specs.declared.entry.Ending.TheVariants as ending
-use Rattle.ak_rows.specs.Row.{Row, proc, line, usual, empty, drains, general, for_helper}
+use Rattle.ak_rows.specs.Row.{Row, brings, without_ask, proc, line, usual, empty, drains, general, for_helper}
 
 -- A helper is granted and one refused; works of the helper and general ones arrive.
 -- proc main; helper h x; helper k y; print x; print y; work r square 3; hwork s h square 4; hdone h; upon r O;
@@ -46,11 +46,10 @@ helpers_and_works_trace =
 abbrev pub helpers_and_works : Row
 helpers_and_works =
     record {
-      program = helpers_and_works_program;
-      main = 0;
-      config = record { threads = 1; limit = 500; jobs = 100000 };
+      program = without_ask helpers_and_works_program 0;
+      config = record usual { threads = 1 };
       replies =
-          empty 1 (Granted true ∷ Granted false ∷ Done ∷ Done ∷ Done ∷ (empty 2 (Pairs ((1, outcome.Good (pos 16)) ∷
+          empty 1 (Granted true ∷ Granted false ∷ Done ∷ Done ∷ Done ∷ (empty 2 (brings ((1, outcome.Good (pos 16)) ∷
           (0, outcome.Good (pos 9)) ∷ []) ∷ (empty 1 (Done ∷ [])))));
       trace = helpers_and_works_trace;
       asks =
@@ -73,9 +72,8 @@ stuck_with_a_general_work_trace =
 abbrev pub stuck_with_a_general_work : Row
 stuck_with_a_general_work =
     record {
-      program = stuck_with_a_general_work_program;
-      main = 0;
-      config = record { threads = 1; limit = 500; jobs = 100000 };
+      program = without_ask stuck_with_a_general_work_program 0;
+      config = record usual { threads = 1 };
       replies =
           empty 1 (Granted true ∷ Done ∷ (empty 1 (Done ∷ [])));
       trace = stuck_with_a_general_work_trace;
@@ -100,11 +98,10 @@ work_arrives_trace =
 abbrev pub work_arrives : Row
 work_arrives =
     record {
-      program = work_arrives_program;
-      main = 0;
+      program = without_ask work_arrives_program 0;
       config = usual;
       replies =
-          empty 1 (Done ∷ (empty 1 (Pairs ((0, outcome.Good (pos 9)) ∷ []) ∷ (empty 1 (Done ∷ [])))));
+          empty 1 (Done ∷ (empty 1 (brings ((0, outcome.Good (pos 9)) ∷ []) ∷ (empty 1 (Done ∷ [])))));
       trace = work_arrives_trace;
       asks =
           drains 1 (general 0 kind.Square (pos 3) ∷ (drains 1 (ask.Drain ∷ (drains 1 (ask.Close ∷ [])))));
@@ -126,11 +123,10 @@ works_behind_an_unhandled_error_trace =
 abbrev pub works_behind_an_unhandled_error : Row
 works_behind_an_unhandled_error =
     record {
-      program = works_behind_an_unhandled_error_program;
-      main = 0;
+      program = without_ask works_behind_an_unhandled_error_program 0;
       config = usual;
       replies =
-          empty 1 (Done ∷ Done ∷ (empty 1 (Pairs ((0, outcome.Bad (pos 3)) ∷ (1, outcome.Good (pos 4)) ∷ []) ∷ Done ∷
+          empty 1 (Done ∷ Done ∷ (empty 1 (brings ((0, outcome.Bad (pos 3)) ∷ (1, outcome.Good (pos 4)) ∷ []) ∷ Done ∷
           [])));
       trace = works_behind_an_unhandled_error_trace;
       asks =

@@ -6,7 +6,8 @@ ghost use Rattle.ak_labor.specs.declared.work.WorkKind.TheVariants.{Square, Mix,
 ghost use Rattle.ak_labor.specs.declared.work.Outcome.TheVariants.{Good, Bad};
 ghost use Rattle.ak_history.specs.Legal.{Legal};
 ghost use Rattle.ak_history.specs.Scheduler.{asks, replies};
-ghost use Rattle.ak_rows.specs.Histories.{work, helper_history, helper_asks, helper_replies};
+ghost use Rattle.ak_rows.specs.Row.{work};
+ghost use Rattle.ak_rows.specs.Histories.{helper_history, helper_asks, helper_replies};
 
 /// What works give.
 pub fn values_of_works()
@@ -21,11 +22,11 @@ pub fn values_of_works()
 
 /// A history with a helper is legal on one thread.
 pub fn helper_history_is_legal()
-    ensures { Legal 1 helper_history }
+    ensures { Legal 1 0 helper_history }
 {}
 
 /// The scheduler's calls in it, and their replies.
 pub fn helper_history_calls()
     ensures asks { asks helper_history ≡ helper_asks }
-    ensures replies { replies helper_history ≡ helper_replies }
+    ensures replies { replies 0 helper_history ≡ helper_replies }
 {}

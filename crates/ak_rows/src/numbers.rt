@@ -10,8 +10,10 @@ pub fn row_operators()
     ensures above { computed Operator.Add (pos 9223372036854775807) (pos 1) ≡ Overflows }
     ensures divide_by_zero { computed Operator.Div (pos 1) (pos 0) ≡ DividesByZero }
     ensures remain_by_zero { computed Operator.Rem (pos 1) (pos 0) ≡ DividesByZero }
-    ensures least_divided { computed Operator.Div (negsuc 9223372036854775807) (negsuc 0) ≡ Overflows }
-    ensures least_remains { computed Operator.Rem (negsuc 9223372036854775807) (negsuc 0) ≡ Gives (pos 0) }
+    ensures least_divided { computed Operator.Div (negsuc 9223372036854775807) (negsuc 0)
+        ≡ Overflows }
+    ensures least_remains { computed Operator.Rem (negsuc 9223372036854775807) (negsuc 0)
+        ≡ Gives (pos 0) }
     ensures cut { computed Operator.Div (negsuc 6) (pos 2) ≡ Gives (negsuc 2) }
     ensures sign { computed Operator.Rem (negsuc 6) (pos 2) ≡ Gives (negsuc 0) }
     ensures less { computed Operator.Less (pos 2) (pos 3) ≡ Gives (pos 1) }

@@ -1,7 +1,9 @@
 //! Scripts, procedures and lines.
 
 ghost use Rattle.std.specs.Prelude.{◌≡◌, slice_get};
+ghost use Rattle.std.specs.List.{AllByRecursion};
 ghost use Rattle.std.specs.Option.{option_copied};
+ghost use Rattle.ak_script.specs.Statements.{ProcIsFormed};
 
 use crate::statement::{Atom, Stmt};
 use ak_base::list::{Items, Word};
@@ -51,7 +53,8 @@ pub struct Proc {
     pub body: Items<Statement>,
 }
 
-/// A script, which contracts see as the list of its procedures.
+/// A script, which contracts see as the list of its procedures. Each statement has the form of the grammar: no prefix stands
+/// before one that binds a name, and its lists and numbers lie in their ranges.
 #[derive(Debug, Drop)]
 pub struct Script {
     procs: Items<Proc>,
@@ -59,16 +62,21 @@ pub struct Script {
 
 impl Model for Script {
     ghost use Rattle.std.specs.Prelude.{List};
+    ghost use Rattle.std.specs.List.{AllByRecursion};
+    ghost use Rattle.ak_script.specs.Statements.{ProcIsFormed};
     ghost use Rattle.ak_script.specs.declared.script.Proc.{Proc};
 
     ghost Value = { List Proc };
 
     ghost view = { λ s. s.procs };
+
+    ghost invariant = { λ s. AllByRecursion ProcIsFormed s.procs };
 }
 
 impl Script {
     /// The script of these procedures. It takes no memory.
     pub fn new(procs: Items<Proc>) -> Script
+        requires { AllByRecursion ProcIsFormed procs }
         ensures { result ≡ procs }
     {
         Script { procs }
@@ -76,7 +84,8 @@ impl Script {
 
     /// The procedures. It takes no memory.
     pub fn into_procs(self) -> Items<Proc>
-        ensures { result ≡ self }
+        ensures value { result ≡ self }
+        ensures formed { AllByRecursion ProcIsFormed result }
     {
         let Script { procs } = self;
         procs

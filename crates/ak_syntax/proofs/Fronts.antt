@@ -1,7 +1,7 @@
 -- A line behind others: what the reader makes of it.
 use Rattle.std.proofs.Common.{◌≡◌, ℕ, ◌+◌, Bool, true, false, not, ◌||◌, ◌==◌, inl, inr, cond, nat_le, nat_lt, Option, Some, None, Result, Ok, Err, List, [], ◌∷◌, length, map, refl, sym, ap, ◌∙◌, subst, arith}
 use Rattle.std.specs.List.{AllZip}
-use Rattle.ak_text.specs.Lines.{TextLine, words_of, has_bad_byte}
+use Rattle.ak_text.specs.Lines.{TextLine, words_of, has_bad_byte, counts}
 use Rattle.ak_script.specs.declared.script.Param.{Param}
 use Rattle.ak_script.specs.declared.script.Statement.{Statement}
 use Rattle.ak_script.specs.declared.script.Proc.{Proc}
@@ -12,11 +12,12 @@ use Rattle.ak_syntax.specs.declared.refusal.GrammarKind.{GrammarKind}
 use Rattle.ak_syntax.specs.declared.refusal.GrammarKind.TheVariants.{BadLine, TooLong, TooMany, BadNumber}
 use Rattle.ak_syntax.specs.declared.version.Version.{Version}
 use Rattle.ak_syntax.specs.declared.version.Version.TheVariants as version
-use Rattle.ak_syntax.specs.Table.{Place, Typed, Stands, binds, longest_list, is_in}
-use Rattle.ak_syntax.specs.Grammar.{places, IsLine, counts, locals}
+use Rattle.ak_script.specs.Statements.{binds}
+use Rattle.ak_syntax.specs.Table.{Place, Typed, Stands, longest_list, is_in}
+use Rattle.ak_syntax.specs.Grammar.{places, IsLine, locals}
 use Rattle.ak_syntax.specs.Faults.{Fits, IsFaulty, SomeZip, HasShape, IsShaped, HasFaultyNumber, Front, all_procs, MayFollow, Exceeds, LineFault}
 use Rattle.ak_syntax.specs.Words.{Bad, listed_at}
-use Rattle.ak_syntax.specs.Lines.{form_from, added, form_added, async_added, head_added, begun_statement, statement_added, grown, lined, taken, taken_good}
+use Rattle.ak_syntax.specs.Lines.{form_from, added, form_added, async_added, head_added, begun_statement, grown, lined, taken, taken_good}
 use Rattle.ak_syntax.proofs.Found.{ok_pair, good_pair, if_not, if_so}
 use Rattle.ak_syntax.proofs.Meets.{Meets, meets_fits, fits_meets, clean, spoilt, faulty_not_clean}
 use Rattle.ak_syntax.proofs.LineForms.{form_sound, form_complete, no_form_words}

@@ -14,8 +14,9 @@ use Rattle.ak_syntax.specs.declared.line_form.Form.{Form}
 use Rattle.ak_syntax.specs.declared.line_form.Form.TheVariants.{Async, Head, Body, End}
 use Rattle.ak_syntax.specs.Keywords.{value_named, deferred_named, group_named, job_named, monitor_named, throttle_named, pipe_named, closing_named, pool_named}
 use Rattle.ak_syntax.specs.Rows.{statement_at}
-use Rattle.ak_syntax.specs.Table.{Place, Valued, row, binds, HasDeferreds}
-use Rattle.ak_syntax.specs.Grammar.{places, prefix_places, HasNumber, MayHavePrefix}
+use Rattle.ak_script.specs.Statements.{binds, MayHavePrefix}
+use Rattle.ak_syntax.specs.Table.{Place, Valued, row, HasDeferreds}
+use Rattle.ak_syntax.specs.Grammar.{places, prefix_places, HasNumber}
 use Rattle.ak_syntax.specs.Faults.{IsShaped}
 use Rattle.ak_syntax.specs.Words.{Bad, bad, ◌>>=◌, Part, both, mapped, word_from, word_at, exactly_at, end_at, atom_at, name_at, params_at}
 use Rattle.ak_syntax.specs.Lines.{head_at, async_at, end_form_at, conditional_at, if_at, unless_at, plain_at, form_from}

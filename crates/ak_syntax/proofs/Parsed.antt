@@ -2,7 +2,10 @@
 use Rattle.std.proofs.Common.{◌≡◌, ℕ, ◌+◌, ◌<◌, ◌≤◌, Bool, true, false, ◌⊎◌, inl, inr, Option, Some, None, Result, Ok, Err, List, [], ◌∷◌, ◌++◌, length, filter, refl, sym, ap, ◌∙◌, subst, arith}
 use Rattle.std.proofs.lemmas.List.{append-nil}
 use Rattle.std.specs.List.{AllZip, AllByRecursion}
-use Rattle.ak_text.specs.Lines.{TextLine, text_lines, numbered, lines_of}
+use Rattle.ak_base.proofs.Lists.{all_between}
+use Rattle.ak_text.specs.Lines.{TextLine, text_lines, numbered, lines_of, counts}
+use Rattle.ak_script.specs.Statements.{IsFormed, ProcIsFormed}
+use Rattle.ak_script.specs.declared.script.Statement.{Statement}
 use Rattle.ak_script.specs.declared.script.Proc.{Proc}
 use Rattle.ak_syntax.specs.declared.line_form.Form.{Form}
 use Rattle.ak_syntax.specs.declared.refusal.GrammarKind.{GrammarKind}
@@ -12,10 +15,10 @@ use Rattle.ak_syntax.specs.declared.refusal.ParseRefused.TheVariants.{At, NoMemo
 use Rattle.ak_syntax.specs.Answers.{IsScript, IsFault, IsRight}
 use Rattle.ak_syntax.specs.Faults.{kind_number, Front, IsFront, HasFaultAt, EndsInside, GrammarFault}
 use Rattle.ak_syntax.specs.declared.version.Version.{Version}
-use Rattle.ak_syntax.specs.Grammar.{Reads, IsLine, ProcIsWithin, counts, version_forms, forms}
+use Rattle.ak_syntax.specs.Grammar.{Reads, IsLine, StatementIsWithin, ProcIsWithin, version_forms, forms}
 use Rattle.ak_syntax.specs.Lines.{Placed, scanned, no_lines, closed_by, Tells}
 use Rattle.ak_syntax.proofs.Fronts.{front_of, fault_is}
-use Rattle.ak_syntax.proofs.Walks.{walk, walk_next, last_number, closed, scanned_walk, walk_kept, walk_append, walk_ok, walk_err, AllCount, all_at, front_walked}
+use Rattle.ak_syntax.proofs.Walks.{walk, walk_next, last_number, closed, scanned_walk, walk_kept, walk_append, walk_ok, walk_err, AllCount, front_walked}
 
 -- ---- the lines that count
 one_counts : (line : TextLine) (lines : List TextLine) (b : Bool) → counts line ≡ b → AllCount (filter counts lines) → AllCount (filter counts (line ∷ lines))
@@ -83,6 +86,20 @@ closed_right bytes size (Err p) is =
 pub found_right : (bytes : List ℕ) → length bytes ≤ 1048576 → RightOf bytes (scanned no_lines 0 (text_lines bytes))
 found_right bytes size = subst (RightOf bytes) (sym (scan_is bytes)) (closed_right bytes size (walked bytes) refl)
 
+-- ---- what is found has the form of the grammar
+formed_of : (v : Version) (body : List Statement) → AllByRecursion (StatementIsWithin v) body → AllByRecursion IsFormed body
+formed_of v [] h = tt
+formed_of v (statement ∷ body) h = ((h.0.0, h.0.1), formed_of v body h.1)
+
+all_formed : (v : Version) (procs : List Proc) → AllByRecursion (ProcIsWithin v) procs → AllByRecursion ProcIsFormed procs
+all_formed v [] h = tt
+all_formed v (proc ∷ procs) h = (formed_of v proc.body h.0.each, all_formed v procs h.1)
+
+pub found_formed : (bytes : List ℕ) (procs : List Proc) → length bytes ≤ 1048576 → scanned no_lines 0 (text_lines bytes) ≡ Ok procs → AllByRecursion ProcIsFormed procs
+found_formed bytes procs size is =
+    let reads : Reads bytes procs = subst (RightOf bytes) is (found_right bytes size) in
+    all_formed reads.of_version procs reads.each
+
 -- ---- what is right is found
 pub reads_found : (bytes : List ℕ) (script : List Proc) → Reads bytes script → scanned no_lines 0 (text_lines bytes) ≡ Ok script
 reads_found bytes script h =
@@ -90,7 +107,7 @@ reads_found bytes script h =
 
 fault_found : (bytes : List ℕ) (number : ℕ) (kind : GrammarKind) → HasFaultAt bytes number kind → walked bytes ≡ Err (number, kind)
 fault_found bytes number kind h =
-    let counted : counts h.line ≡ true = all_at (λ line. counts line ≡ true) h.before h.after h.line (subst AllCount h.lines (all_count (text_lines bytes))) in
+    let counted : counts h.line ≡ true = all_between (λ line. counts line ≡ true) h.before h.after h.line (subst AllCount h.lines (all_count (text_lines bytes))) in
     ap (walk no_lines) h.lines ∙ walk_append h.before (h.line ∷ h.after) no_lines h.front (front_walked h.front h.before h.right)
     ∙ ap (λ (r : Result Front GrammarKind). walk_next h.line.number r (λ n. walk n h.after)) (fault_is h.front h.line kind counted h.fault) ∙ ap (λ (n : ℕ). placed n kind) (sym h.at)
   where

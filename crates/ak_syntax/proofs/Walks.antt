@@ -2,7 +2,8 @@
 use Rattle.std.proofs.Common.{◌≡◌, ℕ, ◌+◌, ◌<◌, ◌≤◌, Bool, true, false, inl, inr, Option, Some, None, Result, Ok, Err, List, [], ◌∷◌, ◌++◌, length, map, filter, refl, sym, ap, ◌∙◌, subst, arith, append_assoc, length-append}
 use Rattle.std.proofs.lemmas.List.{append-nil, map-append}
 use Rattle.std.specs.List.{AllZip, AllByRecursion, flat_map}
-use Rattle.ak_text.specs.Lines.{TextLine, words_of}
+use Rattle.ak_base.proofs.Lists.{all_push, all_front, all_between}
+use Rattle.ak_text.specs.Lines.{TextLine, words_of, counts}
 use Rattle.ak_script.specs.declared.script.Param.{Param}
 use Rattle.ak_script.specs.declared.script.Prefix.{Prefix}
 use Rattle.ak_script.specs.declared.script.Prefix.TheVariants.{If, Unless}
@@ -16,9 +17,10 @@ use Rattle.ak_syntax.specs.declared.refusal.GrammarKind.{GrammarKind}
 use Rattle.ak_syntax.specs.declared.refusal.GrammarKind.TheVariants.{BadLine, TooMany, BadNumber}
 use Rattle.ak_syntax.specs.declared.version.Version.{Version}
 use Rattle.ak_syntax.specs.declared.version.Version.TheVariants as version
-use Rattle.ak_syntax.specs.Table.{Stands, row, binds, longest_list, HasDeferreds, IsWithin, is_in}
-use Rattle.ak_syntax.specs.Grammar.{prefix_places, IsLine, counts, locals, version_forms, forms, StatementIsWithin, ProcIsWithin}
-use Rattle.ak_syntax.specs.Faults.{IsShaped, Front, begun_forms, front_forms, begun_procs, IsFront, IsEmpty, MayFollow, Exceeds, LineFault}
+use Rattle.ak_script.specs.Statements.{binds, IsWithin}
+use Rattle.ak_syntax.specs.Table.{Stands, row, longest_list, HasDeferreds, is_in}
+use Rattle.ak_syntax.specs.Grammar.{prefix_places, IsLine, locals, version_forms, forms, StatementIsWithin, ProcIsWithin}
+use Rattle.ak_syntax.specs.Faults.{IsShaped, Front, begun_forms, begun_procs, IsFront, IsEmpty, MayFollow, Exceeds, LineFault}
 use Rattle.ak_syntax.specs.Lines.{Placed, scanned, taken, then_lines, closed_by, grown, no_lines}
 use Rattle.ak_syntax.proofs.Fronts.{front_with, front_of, front_in, outcome, misplaced, over, wrong, right, Read as ReadLine, shapeless, read, line_read, line_skipped, clean_line, fault_found, right_taken}
 
@@ -86,18 +88,6 @@ walk_append [] ys front mid h = let same : front ≡ mid = ok_front h in ap (λ 
 walk_append (x ∷ xs) ys front mid h = one_append x xs ys front mid (taken front x) refl h (λ next. walk_append xs ys next mid)
 
 -- ---- limits
-pub all_push : {A : Type 0} (P : A → Type 0) (xs : List A) (x : A) → AllByRecursion P xs → P x → AllByRecursion P (xs ++ x ∷ [])
-all_push P [] x h p = (p, tt)
-all_push P (y ∷ xs) x h p = (h.0, all_push P xs x h.1 p)
-
-pub all_at : {A : Type 0} (P : A → Type 0) (xs ys : List A) (x : A) → AllByRecursion P (xs ++ x ∷ ys) → P x
-all_at P [] ys x h = h.0
-all_at P (y ∷ xs) ys x h = all_at P xs ys x h.1
-
-all_front : {A : Type 0} (P : A → Type 0) (xs ys : List A) → AllByRecursion P (xs ++ ys) → AllByRecursion P xs
-all_front P [] ys h = tt
-all_front P (x ∷ xs) ys h = (h.0, all_front P xs ys h.1)
-
 zip_push : {A B : Type 0} (R : A → B → Type 0) (xs : List A) (ys : List B) (x : A) (y : B) → AllZip R xs ys → R x y → AllZip R (xs ++ x ∷ []) (ys ++ y ∷ [])
 zip_push R [] [] x y h r = (r, tt)
 zip_push R [] (w ∷ ys) x y h r = absurd h
@@ -215,7 +205,7 @@ body_front v procs proc statement before line h is shaped may few =
     let short : longest_list statement.stmt ≤ 8 = not_over 8 (longest_list statement.stmt) (λ e. few (inl e)) in
     let room : length proc.body + 1 ≤ 64 = not_over 64 (length proc.body + 1) (λ e. few (inr (inl e))) in
     let bound : length (locals proc) + length (binds statement.stmt) ≤ 64 = not_over 64 (length (locals proc) + length (binds statement.stmt)) (λ e. few (inr (inr e))) in
-    let old : ProcIsWithin v proc = all_at (ProcIsWithin v) procs [] proc h.each in
+    let old : ProcIsWithin v proc = all_between (ProcIsWithin v) procs [] proc h.each in
     let words = stmt_words statement.prefix statement.stmt (words_of line.text) is.words in
     let within : StatementIsWithin v statement = (shaped.0, within_of statement.stmt words.0 short shaped.1 words.1, may) in
     let local : locals (grown proc statement) ≡ locals proc ++ binds statement.stmt =
@@ -371,7 +361,7 @@ walk_body : (v : Version) (body : List Statement) (procs : List Proc) (proc : Pr
 walk_body v [] procs proc fs lines within h = (lines, h, ap (λ (b : List Statement). walk (front_in v procs (with_body proc b)) lines) (sym (append-nil proc.body)))
 walk_body v (statement ∷ body) procs proc fs [] within h = absurd h
 walk_body v (statement ∷ body) procs proc fs (line ∷ lines) within h =
-    let each : StatementIsWithin v statement = all_at (StatementIsWithin v) proc.body body statement within.each in
+    let each : StatementIsWithin v statement = all_between (StatementIsWithin v) proc.body body statement within.each in
     let joined : (proc.body ++ statement ∷ []) ++ body ≡ proc.body ++ statement ∷ body = append_assoc proc.body (statement ∷ []) body in
     let step = walk_step (front_in v procs proc) (front_in v procs (grown proc statement)) line lines
     (right_taken (front_in v procs proc) line (Body statement) h.0 (each.0, within_deferreds statement.stmt each.1) each.2 (not_ex each.1)) in

@@ -1,7 +1,7 @@
 -- What is wrong with a text that is no script: the first line with a fault, and the least kind of its faults.
 use Rattle.std.specs.Prelude.{◌≡◌, ℕ, ◌+◌, ◌<◌, ◌≤◌, true, false, ◌⊎◌, Option, Some, None, IsSomeAnd, List, [], ◌∷◌, ◌++◌, map, filter, length, ℤ, pos}
 use Rattle.std.specs.List.{AllZip, AllByRecursion}
-use Rattle.ak_text.specs.Lines.{TextLine, text_lines, words_of, has_bad_byte}
+use Rattle.ak_text.specs.Lines.{TextLine, text_lines, words_of, has_bad_byte, counts}
 use Rattle.ak_script.specs.declared.script.Proc.{Proc}
 use Rattle.ak_script.specs.declared.statement.Atom.TheVariants.{Literal}
 use Rattle.ak_syntax.specs.declared.line_form.Form.{Form}
@@ -11,8 +11,9 @@ use Rattle.ak_syntax.specs.declared.refusal.GrammarKind.TheVariants.{BadLine, To
 use Rattle.ak_syntax.specs.declared.version.Version.{Version}
 use Rattle.ak_syntax.specs.declared.version.Version.TheVariants as version
 use Rattle.ak_syntax.specs.Names.{is_number_word}
-use Rattle.ak_syntax.specs.Table.{Place, Valued, Counted, Stands, binds, HasDeferreds, longest_list, is_in}
-use Rattle.ak_syntax.specs.Grammar.{places, HasNumber, IsLine, version_forms, forms, counts, MayHavePrefix, ProcIsWithin, locals}
+use Rattle.ak_script.specs.Statements.{binds, MayHavePrefix}
+use Rattle.ak_syntax.specs.Table.{Place, Valued, Counted, Stands, HasDeferreds, longest_list, is_in}
+use Rattle.ak_syntax.specs.Grammar.{places, HasNumber, IsLine, version_forms, forms, ProcIsWithin, locals}
 
 -- the number of a kind
 abbrev pub kind_number : GrammarKind → ℕ

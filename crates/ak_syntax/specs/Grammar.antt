@@ -1,8 +1,8 @@
 -- The grammar of scripts: a text is its lines, a line its words, the lines have a version, and the words are those of a form
 -- that the version has.
-use Rattle.std.specs.Prelude.{◌≡◌, ℕ, ◌≤◌, Bool, true, false, not, ◌||◌, ◌==◌, Option, Some, None, List, [], ◌∷◌, ◌++◌, map, filter, length, codes}
+use Rattle.std.specs.Prelude.{◌≡◌, ℕ, ◌≤◌, true, false, Option, Some, None, List, [], ◌∷◌, ◌++◌, map, filter, length, codes}
 use Rattle.std.specs.List.{AllZip, AllByRecursion, flat_map}
-use Rattle.ak_text.specs.Lines.{TextLine, text_lines, words_of, has_bad_byte}
+use Rattle.ak_text.specs.Lines.{TextLine, text_lines, words_of, has_bad_byte, counts}
 use Rattle.ak_script.specs.declared.script.Param.{Param}
 use Rattle.ak_script.specs.declared.script.Prefix.{Prefix}
 use Rattle.ak_script.specs.declared.script.Prefix.TheVariants.{If, Unless}
@@ -10,10 +10,10 @@ use Rattle.ak_script.specs.declared.script.Statement.{Statement}
 use Rattle.ak_script.specs.declared.script.Proc.{Proc}
 use Rattle.ak_syntax.specs.declared.line_form.Form.{Form}
 use Rattle.ak_syntax.specs.declared.line_form.Form.TheVariants.{Async, Head, Body, End}
-use Rattle.ak_script.specs.declared.statement.Stmt.{Stmt}
 use Rattle.ak_syntax.specs.declared.version.Version.{Version}
 use Rattle.ak_syntax.specs.declared.version.Version.TheVariants as version
-use Rattle.ak_syntax.specs.Table.{Place, Exactly, Named, Valued, Typed, Stands, row, binds, IsWithin, is_in}
+use Rattle.ak_script.specs.Statements.{binds, MayHavePrefix, IsWithin}
+use Rattle.ak_syntax.specs.Table.{Place, Exactly, Named, Valued, Typed, Stands, row, is_in}
 
 -- the words of a prefix
 abbrev pub prefix_places : Option Prefix → List Place
@@ -50,15 +50,6 @@ version_forms version.Two = Async ∷ []
 abbrev pub forms : List Proc → List Form
 forms [] = []
 forms (proc ∷ procs) = Head proc.name proc.line proc.params ∷ (map Body proc.body ++ End ∷ forms procs)
-
--- whether a line isn't skipped: a good line without words is
-abbrev pub counts : TextLine → Bool
-counts line = has_bad_byte line.text || not (length (words_of line.text) == 0)
-
--- a statement may stand behind a prefix where it binds no name
-abbrev pub MayHavePrefix : Option Prefix → Stmt → Type 0
-MayHavePrefix None stmt = Unit {0}
-MayHavePrefix (Some prefix) stmt = binds stmt ≡ []
 
 -- a statement with its prefix keeps the limits, and the version has it
 abbrev pub StatementIsWithin : Version → Statement → Type 0

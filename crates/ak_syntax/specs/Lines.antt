@@ -20,7 +20,8 @@ use Rattle.ak_syntax.specs.declared.refusal.ParseRefused.{ParseRefused}
 use Rattle.ak_syntax.specs.declared.refusal.ParseRefused.TheVariants as parse
 use Rattle.ak_syntax.specs.declared.version.Version.{Version}
 use Rattle.ak_syntax.specs.declared.version.Version.TheVariants as version
-use Rattle.ak_syntax.specs.Table.{binds, longest_list, is_in}
+use Rattle.ak_script.specs.Statements.{binds}
+use Rattle.ak_syntax.specs.Table.{longest_list, is_in}
 use Rattle.ak_syntax.specs.Grammar.{locals}
 use Rattle.ak_syntax.specs.Faults.{Front, kind_number}
 use Rattle.ak_syntax.specs.Rows.{statement_at}

@@ -1,10 +1,8 @@
--- The table of statements: the words of each, the names that it binds, and the limits of its lists and numbers.
+-- The table of statements: the words of each, its lists, and the versions that have it.
 use Rattle.std.specs.Prelude.{◌≡◌, ℕ, ◌≤◌, max, Bool, true, false, List, [], ◌∷◌, ◌++◌, map, length, pos, codes, FitsSigned, if◌then◌else◌}
 use Rattle.std.specs.Int.{w64}
 use Rattle.std.specs.List.{flat_map}
 use Rattle.ak_text.specs.Numbers.{Writes}
-use Rattle.ak_script.specs.declared.script.Kind.{Kind}
-use Rattle.ak_script.specs.declared.script.Kind.TheVariants as of_kind
 use Rattle.ak_script.specs.declared.script.Param.{Param}
 use Rattle.ak_script.specs.declared.statement.Atom.{Atom}
 use Rattle.ak_script.specs.declared.statement.Atom.TheVariants.{Literal, Local}
@@ -94,59 +92,6 @@ row (HelperWork r h kind a) = Exactly (codes "hwork") ∷ Named r ∷ Named h �
 row (HelperDone h) = Exactly (codes "hdone") ∷ Named h ∷ []
 row Stop = Exactly (codes "stop") ∷ []
 row (Ret a) = Exactly (codes "ret") ∷ Valued a ∷ []
-
--- a name that a statement binds, with its kind
-abbrev pub bound : List ℕ → Kind → Param
-bound name kind = record { name = name; kind = kind }
-
--- the names that a statement binds, in the order of its words
-abbrev pub binds : Stmt → List Param
-binds (Set x a op b) = bound x of_kind.Num ∷ []
-binds (Ivar i) = bound i of_kind.Ivar ∷ []
-binds (Bind r d proc args) = bound r of_kind.Def ∷ []
-binds (All r deferreds proc args) = bound r of_kind.Def ∷ []
-binds (Any r deferreds) = bound r of_kind.Def ∷ []
-binds (Choose r choices args) = bound r of_kind.Def ∷ []
-binds (Yield r) = bound r of_kind.Def ∷ []
-binds (Never r) = bound r of_kind.Def ∷ []
-binds (After r n) = bound r of_kind.Def ∷ []
-binds (Event e r n) = bound e of_kind.Event ∷ bound r of_kind.Def ∷ []
-binds (Monitor m) = bound m of_kind.Mon ∷ []
-binds (NextError r m) = bound r of_kind.Def ∷ []
-binds (Try r proc args catch catch_args mode) = bound r of_kind.Def ∷ []
-binds (Throttle t k stop) = bound t of_kind.Thr ∷ []
-binds (Enqueue r t proc args) = bound r of_kind.Def ∷ []
-binds (ThrottleDone r t) = bound r of_kind.Def ∷ []
-binds (Pipe p b) = bound p of_kind.Pipe ∷ []
-binds (Write r p a) = bound r of_kind.Def ∷ []
-binds (Read r p proc args eof eof_args) = bound r of_kind.Def ∷ []
-binds (Flushed r p) = bound r of_kind.Def ∷ []
-binds (Work r kind a) = bound r of_kind.Def ∷ []
-binds (Helper h x) = bound h of_kind.Helper ∷ bound x of_kind.Num ∷ []
-binds (HelperWork r h kind a) = bound r of_kind.Def ∷ []
-binds _ = []
-
--- one to eight
-abbrev pub IsOneToEight : ℕ → Type 0
-IsOneToEight count = (1 ≤ count) × (count ≤ 8)
-
--- at most 8 atoms stand in a list of arguments, one to 8 deferreds in one of deferreds, and the numbers lie in their ranges
-abbrev pub IsWithin : Stmt → Type 0
-IsWithin (Upon d proc args) = length args ≤ 8
-IsWithin (Bind r d proc args) = length args ≤ 8
-IsWithin (All r deferreds proc args) = IsOneToEight (length deferreds) × (length args ≤ 8)
-IsWithin (Any r deferreds) = IsOneToEight (length deferreds)
-IsWithin (Choose r choices args) = IsOneToEight (length choices) × (length args ≤ 8)
-IsWithin (Sched proc args) = length args ≤ 8
-IsWithin (Low proc args) = length args ≤ 8
-IsWithin (Within m proc args) = length args ≤ 8
-IsWithin (OnError m proc args) = length args ≤ 8
-IsWithin (Try r proc args catch catch_args mode) = (length args ≤ 8) × (length catch_args ≤ 8)
-IsWithin (Throttle t k stop) = (1 ≤ k) × (k ≤ 1000000)
-IsWithin (Enqueue r t proc args) = length args ≤ 8
-IsWithin (Pipe p b) = b ≤ 1000000
-IsWithin (Read r p proc args eof eof_args) = (length args ≤ 8) × (length eof_args ≤ 8)
-IsWithin _ = Unit {0}
 
 -- the lists of deferreds, of which none is empty
 abbrev pub HasDeferreds : Stmt → Type 0

@@ -1,7 +1,8 @@
 //! What counts against the limits of a script.
 
 ghost use Rattle.std.specs.Prelude.{◌≡◌, ◌≤◌, length};
-ghost use Rattle.ak_syntax.specs.Table.{binds, longest_list};
+ghost use Rattle.ak_script.specs.Statements.{binds};
+ghost use Rattle.ak_syntax.specs.Table.{longest_list};
 
 use ak_script::statement::Stmt;
 

@@ -1,10 +1,11 @@
 //! How far the reader of a script has come.
 
 ghost use Rattle.std.specs.Prelude.{◌≡◌, ◌+◌, length, [], IfOk, is_some};
+ghost use Rattle.std.specs.List.{AllByRecursion};
 ghost use Rattle.std.specs.Option.{option_map};
 ghost use Rattle.ak_syntax.specs.Lines.{Becomes, HasRoom, grown, added, taken, no_lines, async_added, begun_head, begun_statement, begun_end, statement_exceeds};
 ghost use Rattle.ak_syntax.specs.Grammar.{locals};
-ghost use Rattle.ak_syntax.specs.Table.{binds};
+ghost use Rattle.ak_script.specs.Statements.{binds, ProcIsFormed};
 
 use crate::cursor::{Cursor, Until};
 use crate::form::form;
@@ -172,6 +173,7 @@ impl Reader {
 
     /// The script of the procedures that were read.
     pub fn into_script(self) -> Script
+        requires { AllByRecursion ProcIsFormed self.procs }
         ensures { result ≡ self.procs }
     {
         Script::new(self.procs)

@@ -3,6 +3,7 @@
 use ak_base::list::{Items, NoMemory, Word};
 use ak_base::memory::{MemSink, MemSource};
 use ak_labor::labor::plain_hands;
+use ak_top::check::check_words;
 use ak_top::status::{Status, message};
 use ak_top::top::top;
 use std::alloc::Global;
@@ -485,5 +486,18 @@ fn messages_are_told(rt: HostRuntime) -> Result<(), NoMemory> {
     for (status, text) in cases {
         assert_eq!(rt; message(rt.alloc(), &status)?.as_slice(), text.as_bytes());
     }
+    Ok(())
+}
+
+// `check_words` is the part of `top` that tests a script, and needs no threads.
+#[test]
+fn a_script_is_tested_without_threads(rt: HostRuntime) -> Result<(), NoMemory> {
+    let alloc = rt.alloc();
+    let words = vec![in alloc; word(alloc, "check")?]?;
+    let mut source = MemSource::make(lines(alloc, "proc main; end")?, 4096, Vec::new(alloc));
+    let mut sink = MemSink::make(alloc, 100, 100, Vec::new(alloc))?;
+    let report = check_words(alloc, words.as_slice(), &mut source, &mut sink);
+    assert_eq!(rt; report.status, Status::Done);
+    assert_eq!(rt; sink.taken(), b"valid\n".as_slice());
     Ok(())
 }

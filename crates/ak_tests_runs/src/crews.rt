@@ -5,8 +5,8 @@ ghost use Rattle.ak_exec.specs.Built.{AreBuilt};
 
 use ak_crew::crew::crew;
 use ak_exec::built::first_unbuilt;
+use ak_labor::config::Config;
 use ak_labor::labor::plain_hands;
-use ak_machine::config::Config;
 use ak_program::program::Program;
 use ak_syntax::parse::parse;
 use ak_valid::validate::validate;
@@ -40,6 +40,7 @@ fn a_crew_runs_a_print(rt: HostRuntime) -> Result<(), Fail> {
         threads: 4,
         limit: 500,
         jobs: 100,
+        askers: 0,
     };
     let hands = plain_hands(alloc, 32)?;
     let ran = crew(&rt, alloc, program, config, hands)?;

@@ -118,6 +118,38 @@ fn first_faults_of_names(rt: HostRuntime) -> Result<(), AllocError> {
     Ok(())
 }
 
+/// Whether the program of a row's text serves requests, and by which procedure.
+fn ask_of(alloc: Global, row: &str) -> Result<(bool, Option<usize>), AllocError> {
+    let case = case_of(alloc, row)?;
+    let script = parse(alloc, &case.text).map_err(|_refused| AllocError)?;
+    let program = validate(alloc, script).map_err(|_refused| AllocError)?;
+    Ok((program.has_ask(), program.ask()))
+}
+
+#[test]
+fn requests_are_served_by_ask(rt: HostRuntime) -> Result<(), AllocError> {
+    for (row, ask) in [
+        (
+            "00 proc main;end;proc ask v:num;set w v + 1;ret w;end",
+            Some(1),
+        ),
+        ("00 proc ask v:num;ret v;end;proc main;end", Some(0)),
+        (
+            "00 proc main;sched ask 1;end;proc b;end;proc ask n:num;end",
+            Some(2),
+        ),
+        ("00 proc main;end;proc ask v:num w:num;end", None),
+        ("00 proc main;end;proc ask;end", None),
+        ("00 proc main;end;proc ask d:def;end", None),
+        ("00 proc main;end;proc ask i:ivar;end", None),
+        ("00 proc main;end;proc tell v:num;end", None),
+        ("00 proc main;end", None),
+    ] {
+        assert_eq!(rt; ask_of(rt.alloc(), row)?, (ask.is_some(), ask), "{row}");
+    }
+    Ok(())
+}
+
 #[test]
 fn main_by_its_place(rt: HostRuntime) -> Result<(), AllocError> {
     let script = parse(rt.alloc(), b"proc a\nend\nproc main\nend\n").map_err(

@@ -1,7 +1,7 @@
 //! The words of a command line.
 
 use ak_base::list::{Items, NoMemory, Word};
-use ak_machine::config::Config;
+use ak_labor::config::Config;
 use ak_words::command::{Command, read_command};
 use std::alloc::Global;
 
@@ -14,12 +14,13 @@ fn words_of(alloc: Global, line: &str) -> Result<Vec<Word>, NoMemory> {
     Ok(words)
 }
 
-/// The command to run with so many threads, jobs of a priority in a cycle, and jobs in all.
+/// The command to run with so many threads, jobs of a priority in a cycle, and jobs in all. No words give askers.
 fn run(threads: u32, limit: u32, jobs: u32) -> Result<Command, u32> {
     Ok(Command::Run(Config {
         threads,
         limit,
         jobs,
+        askers: 0,
     }))
 }
 

@@ -2,7 +2,7 @@
 
 use ak_base::list::{Items, NoMemory};
 use ak_base::memory::MemSink;
-use ak_base::number::{HelperNo, ThreadNo, WorkNo};
+use ak_base::number::{AskerNo, HelperNo, RequestNo, ThreadNo, WorkNo};
 use ak_base::sink::WriteFailed;
 use ak_history::event::Event;
 use ak_history::reading::read_history;
@@ -21,6 +21,10 @@ start 0 1
 finish 0 1 good 16
 drain 1 0
 idle 1
+request 0 1 -5
+drain requests 0
+answered 0 6
+askerend 1
 close
 ";
 
@@ -32,10 +36,12 @@ fn each_event_is_written(rt: HostRuntime) -> Result<(), NoMemory> {
     let square = WorkKind::Square;
     let events = vec![in rt.alloc();
         Event::Drain {
-            ids: Items::make(rt.alloc())
+            ids: Items::make(rt.alloc()),
+            requests: Items::make(rt.alloc())
         },
         Event::Drain {
-            ids: Items::make(rt.alloc())
+            ids: Items::make(rt.alloc()),
+            requests: Items::make(rt.alloc())
         },
         Event::HelperNew {
             no: helper,
@@ -69,14 +75,32 @@ fn each_event_is_written(rt: HostRuntime) -> Result<(), NoMemory> {
             outcome: Outcome::Good(16)
         },
         Event::Drain {
-            ids: Items::from_vec(vec![in rt.alloc(); one, zero]?)
+            ids: Items::from_vec(vec![in rt.alloc(); one, zero]?),
+            requests: Items::make(rt.alloc())
         },
         Event::Drain {
-            ids: Items::make(rt.alloc())
+            ids: Items::make(rt.alloc()),
+            requests: Items::make(rt.alloc())
+        },
+        Event::Request {
+            no: RequestNo::new(0),
+            asker: AskerNo::new(1),
+            num: -5
+        },
+        Event::Drain {
+            ids: Items::make(rt.alloc()),
+            requests: Items::from_vec(vec![in rt.alloc(); RequestNo::new(0)]?)
+        },
+        Event::Answered {
+            no: RequestNo::new(0),
+            num: 6
+        },
+        Event::AskerEnd {
+            asker: AskerNo::new(1)
         },
         Event::Close,
     ]?;
-    let mut sink = MemSink::make(rt.alloc(), 300, 7, Vec::new(rt.alloc()))?;
+    let mut sink = MemSink::make(rt.alloc(), 400, 7, Vec::new(rt.alloc()))?;
     assert_eq!(rt; write_history(&Items::from_vec(events), &mut sink), Ok(()));
     assert_eq!(rt; sink.taken(), WRITTEN.as_bytes());
     Ok(())
@@ -149,14 +173,21 @@ submit 3 helper 4294967295 mix -4
 finish 3 2 bad -9223372036854775808
 drain 4294967295
 helper 1 granted 31
+request 18446744073709551615 4294967295 -9223372036854775808
+askerend 4294967295
+drain 7 requests 18446744073709551615 0
+drain requests 3
+answered 18446744073709551615 9223372036854775807
 ";
+
+const EACH_LINES: [u32; 10] = [1, 2, 3, 4, 5, 6, 7, 8, 9, 10];
 
 #[test]
 fn histories_are_read(rt: HostRuntime) -> Result<(), HistoryRefused> {
     let numbers = [1, 2, 3, 4, 5, 6, 7, 7, 8, 9, 10, 11, 12, 13, 14];
     for (text, first, written, lines) in [
         (WORKED, 1, WORKED, numbers.as_slice()),
-        (EACH, 1, EACH, &numbers[..5]),
+        (EACH, 1, EACH, &EACH_LINES),
         ("", 1, "", &[]),
         ("# é\n\n \t \n", 1, "", &[]),
         (
@@ -223,6 +254,21 @@ fn bad_lines_are_refused(rt: HostRuntime) -> Result<(), HistoryRefused> {
         "drain",
         "drain 1 x",
         "drain 1 4294967296",
+        "drain requests",
+        "drain 1 requests",
+        "drain requests 1 requests 2",
+        "drain requests x",
+        "drain requests 18446744073709551616",
+        "drain request 0",
+        "request 0 0",
+        "request 0 0 5 6",
+        "request 0 4294967296 5",
+        "request 18446744073709551616 0 5",
+        "askerend",
+        "askerend 0 1",
+        "answered 0",
+        "answered 0 1 2",
+        "answered 18446744073709551616 1",
         "idle",
         "idle 0",
         "idle -1",

@@ -5,7 +5,7 @@ use ak_labor::labor::{Labor, Plain};
 use ak_labor::work::{Outcome, Work, WorkKind};
 use ak_row::line::counts;
 use ak_row::row::Row;
-use ak_row::word::{count, job, kind, signed, thing};
+use ak_row::word::{count, kind, long, signed, thing};
 use ak_text::decimal::{write_num, write_u64};
 use ak_text::text::lines;
 use std::test::Fail;
@@ -71,7 +71,7 @@ fn words_at_the_edges_of_their_ranges(rt: HostRuntime) {
         ("18446744073709551616", None),
         ("4294967296", Some(4294967296)),
     ] {
-        assert_eq!(rt; job(word.as_bytes()), number, "{word}");
+        assert_eq!(rt; long(word.as_bytes()), number, "{word}");
     }
     for (word, number) in [
         ("0", None),

@@ -56,3 +56,11 @@ words_of text = filter is_not_empty (pieces is_gap text)
 -- whether a byte is neither of a word nor a blank
 abbrev pub has_bad_byte : List ℕ → Bool
 has_bad_byte text = list_any (λ byte. not (is_word_byte byte || is_blank byte)) text
+
+-- whether a line isn't skipped: a good line without words is
+abbrev pub counts : TextLine → Bool
+counts line = has_bad_byte line.text || not (length (words_of line.text) == 0)
+
+-- the lines of a text that aren't skipped
+abbrev pub counting_lines : List ℕ → List TextLine
+counting_lines bytes = filter counts (text_lines bytes)

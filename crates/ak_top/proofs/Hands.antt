@@ -11,7 +11,7 @@ use Rattle.ak_top.specs.declared.stop.Stop.{Stop}
 use Rattle.ak_top.specs.declared.stop.Stop.TheVariants as stop
 use Rattle.ak_top.specs.Hands.{HaveCarried, AreKept, AreAfterRun, AreAfter}
 use Rattle.ak_top.specs.Reports.{is_carried_out}
-use Rattle.ak_top.specs.Status.{status_by}
+use Rattle.ak_top.specs.Status.{IsStatusOf}
 use Rattle.ak_top.specs.Stops.{status_at}
 use Rattle.ak_top.proofs.Reporting.{carried as is_carried, bare_report}
 
@@ -27,7 +27,7 @@ module _ {L : Type 0} (carried : L → ℕ) (old new : List L) where
   after_carried history NoMemory c h = absurd (cc (c))
   after_carried history Stuck c h = h
 
-  pub after_run : (r : Report) (trace : List Entry) (history : List Event) → r.history ≡ history → (r.status ≡ status_by (status_of trace)) ⊎ (r.status ≡ WriteFault) → HaveCarried carried old new history → AreAfterRun carried old new r.history r.status
+  pub after_run : (r : Report) (trace : List Entry) (history : List Event) → r.history ≡ history → IsStatusOf (status_of trace) r.status ⊎ (r.status ≡ WriteFault) → HaveCarried carried old new history → AreAfterRun carried old new r.history r.status
   after_run r trace history e s h =
       after_carried r.history r.status (is_carried r.status (status_of trace) s) (subst (HaveCarried carried old new) (sym e) h)
 

@@ -3,8 +3,7 @@ use Rattle.std.proofs.Common.{◌≡◌, ◌⊎◌, inl, inr, ℕ, List, [], Boo
 use Rattle.std.specs.Prelude.{Option}
 use Rattle.ak_trace.specs.declared.entry.Entry.{Entry}
 use Rattle.ak_history.specs.declared.event.Event.{Event}
-use Rattle.ak_cycle.specs.Turns.{IsFinished}
-use Rattle.ak_machine.specs.declared.config.Config.{Config}
+use Rattle.ak_labor.specs.declared.config.Config.{Config}
 use Rattle.ak_machine.specs.Status.{Stat, Well, ByError, AtJobLimit, Unfinished, status_of}
 use Rattle.ak_machine.specs.Status as stat
 use Rattle.ak_words.specs.declared.command.Command.{Command}
@@ -17,23 +16,23 @@ use Rattle.ak_top.specs.declared.stop.Stop.TheVariants as stop
 use Rattle.ak_top.specs.Headline.{IsRun, IsValidSource}
 use Rattle.ak_top.specs.Refusals.{IsRefused, TellsFault, TellsScript}
 use Rattle.ak_top.specs.Reports.{is_carried_out, Shows, IsRefusal, IsNoRefusal, IsVerdict, ReportsRun, ReportsCheck}
-use Rattle.ak_top.specs.Status.{status_by}
+use Rattle.ak_top.specs.Status.{IsStatusOf}
 use Rattle.ak_top.specs.Stops.{status_at, IsStop, IsTheRefusal, IsNoRefusal as IsNoStop}
 
 -- ---- statuses
-shows_by : (s : Stat) → IsFinished s → Shows (status_by s) s
-shows_by Well f = refl
-shows_by (ByError num) f = refl
-shows_by AtJobLimit f = refl
-shows_by stat.Stuck f = refl
-shows_by Unfinished f = absurd f
+shows_by : (t : Stat) (s : Status) → IsStatusOf t s → Shows s t
+shows_by Well s e = subst (λ x. Shows x Well) (sym e) refl
+shows_by (ByError num) s e = subst (λ x. Shows x (ByError num)) (sym e) refl
+shows_by AtJobLimit s e = subst (λ x. Shows x AtJobLimit) (sym e) refl
+shows_by stat.Stuck s e = subst (λ x. Shows x stat.Stuck) (sym e) refl
+shows_by Unfinished s e = absurd e
 
-carried_by : (s : Stat) → is_carried_out (status_by s) ≡ true
-carried_by Well = refl
-carried_by (ByError num) = refl
-carried_by AtJobLimit = refl
-carried_by stat.Stuck = refl
-carried_by Unfinished = refl
+carried_by : (t : Stat) (s : Status) → IsStatusOf t s → is_carried_out s ≡ true
+carried_by Well s e = ap is_carried_out e
+carried_by (ByError num) s e = ap is_carried_out e
+carried_by AtJobLimit s e = ap is_carried_out e
+carried_by stat.Stuck s e = ap is_carried_out e
+carried_by Unfinished s e = absurd e
 
 no_refusal : (s : Status) → is_carried_out s ≡ true → IsNoRefusal s
 no_refusal Done c = tt
@@ -53,21 +52,22 @@ not_both : (s : Status) → is_carried_out s ≡ true → is_carried_out s ≡ f
 not_both s c d = cc (c, d)
 
 -- ---- a run
-pub carried : (s : Status) (t : Stat) → (s ≡ status_by t) ⊎ (s ≡ WriteFault) → is_carried_out s ≡ true
-carried s t (inl e) = ap is_carried_out e ∙ carried_by t
+pub carried : (s : Status) (t : Stat) → IsStatusOf t s ⊎ (s ≡ WriteFault) → is_carried_out s ≡ true
+carried s t (inl e) = carried_by t s e
 carried s t (inr e) = ap is_carried_out e
 
-shown : (s : Status) (t : Stat) → IsFinished t → (s ≡ status_by t) ⊎ (s ≡ WriteFault) → Shows s t
-shown s t f (inl e) = subst (λ x. Shows x t) (sym e) (shows_by t f)
-shown s t f (inr e) = subst (λ x. Shows x t) (sym e) tt
+shown : (s : Status) (t : Stat) → IsStatusOf t s ⊎ (s ≡ WriteFault) → Shows s t
+shown s t (inl e) = shows_by t s e
+shown s t (inr e) = subst (λ x. Shows x t) (sym e) tt
 
-pub run_reports : (config : Config) (told : Option (List ℕ)) (r : Report) (trace : List Entry) (history : List Event) → r.trace ≡ trace → r.history ≡ history → IsFinished (status_of trace) → (r.status ≡ status_by (status_of trace)) ⊎ (r.status ≡ WriteFault)
+pub run_reports : (config : Config) (told : Option (List ℕ)) (r : Report) (trace : List Entry) (history : List Event) → r.trace ≡ trace → r.history ≡ history
+    → IsStatusOf (status_of trace) r.status ⊎ (r.status ≡ WriteFault)
     → IsRun config told trace history → ((line kind : ℕ) → TellsFault (Run config) told line kind → ⊥) → ReportsRun config told r
-run_reports config told r trace history t h f s is none =
+run_reports config told r trace history t h s is none =
     let c = carried r.status (status_of trace) s
     in record {
       run = λ e. subst (λ x. IsRun config told x r.history) (sym t) (subst (λ x. IsRun config told trace x) (sym h) is);
-      shows = subst (λ x. Shows r.status (status_of x)) (sym t) (shown r.status (status_of trace) f s);
+      shows = subst (λ x. Shows r.status (status_of x)) (sym t) (shown r.status (status_of trace) s);
       bare = λ e. absurd (not_both r.status c e);
       refused = λ line kind e. absurd (not_refused r.status line kind c e);
       refuses = λ line kind x. absurd (none line kind x);

@@ -7,8 +7,9 @@ use Rattle.ak_history.specs.Scheduler.{asks, replies}
 use Rattle.ak_script.specs.declared.script.Proc.{Proc}
 use Rattle.ak_syntax.specs.Grammar.{Reads}
 use Rattle.ak_valid.specs.Valid.{Valid}
-use Rattle.ak_valid.specs.Numbered.{numbered, main_of}
-use Rattle.ak_machine.specs.declared.config.Config.{Config}
+use Rattle.ak_program.specs.Programs.{NumProgram}
+use Rattle.ak_valid.specs.Numbered.{numbered, main_of, ask_of}
+use Rattle.ak_labor.specs.declared.config.Config.{Config}
 use Rattle.ak_machine.specs.Run.{Run, HasEnded, run_of}
 use Rattle.ak_history_laws.specs.Once.{StartOnce}
 use Rattle.ak_laws.specs.Laws.{ObeysLaws}
@@ -19,16 +20,20 @@ pub record IsScript (bytes : List ℕ) (script : List Proc) : Type 0 where
   pub reads : Reads bytes script
   pub valid : Valid script
 
+-- the program of a script
+abbrev pub program_of : List Proc → NumProgram
+program_of script = record { procs = numbered script; main = main_of script; ask = ask_of script }
+
 -- the run of the machine for a script, on the replies that a history gave its scheduler
 abbrev pub run_on : List Proc → Config → List Event → Run
-run_on script config history = run_of (numbered script) (main_of script) config (replies history)
+run_on script config history = run_of (program_of script) config (replies config.askers history)
 
 -- The headline, for a script's bytes: this trace and this history are those of a run of the script under these settings.
 pub record RunsTo (config : Config) (bytes : List ℕ) (trace : List Entry) (history : List Event) : Type 0 where
   pub script : List Proc
   pub is_script : IsScript bytes script
-  -- the history is legal for the pool's threads
-  pub legal : Legal config.threads history
+  -- the history is legal for the pool's threads and those who ask from outside
+  pub legal : Legal config.threads config.askers history
   -- the machine has ended, the trace is the machine's, and the history holds exactly the calls that the machine makes
   pub ended : (run_on script config history).outcome ≡ HasEnded
   pub trace_is : (run_on script config history).trace ≡ trace

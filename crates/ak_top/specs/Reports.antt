@@ -1,7 +1,7 @@
 -- What a report tells, by its status. Own.
 use Rattle.std.specs.Prelude.{ℕ, List, [], ◌≡◌, ◌⊎◌, Option, Bool, true, false}
 use Rattle.ak_base.specs.Streams.{grown, TookBeginning}
-use Rattle.ak_machine.specs.declared.config.Config.{Config}
+use Rattle.ak_labor.specs.declared.config.Config.{Config}
 use Rattle.ak_machine.specs.Status.{Stat, Well, ByError, AtJobLimit, status_of}
 use Rattle.ak_machine.specs.Status as stat
 use Rattle.ak_words.specs.declared.command.Command.{Command}

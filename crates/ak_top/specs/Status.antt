@@ -1,5 +1,5 @@
 -- Exit statuses and messages. Own.
-use Rattle.std.specs.Prelude.{ℕ, List, [], ◌∷◌, ◌++◌, codes, decimal, slice_index_or}
+use Rattle.std.specs.Prelude.{ℕ, ◌≡◌, List, [], ◌∷◌, ◌++◌, codes, decimal, slice_index_or}
 use Rattle.ak_text.specs.Decimal.{decimal_of}
 use Rattle.ak_machine.specs.Status.{Stat, Well, ByError, AtJobLimit, Unfinished}
 use Rattle.ak_machine.specs.Status as stat
@@ -39,10 +39,10 @@ message_of Jobs = codes "job limit reached"
 message_of NoMemory = codes "no memory"
 message_of Stuck = codes "stuck: all threads are reserved"
 
--- the status of a run that ended
-abbrev pub status_by : Stat → Status
-status_by Well = Done
-status_by (ByError num) = Unhandled num
-status_by AtJobLimit = Jobs
-status_by stat.Stuck = Stuck
-status_by Unfinished = Done
+-- the status is that of a run that ended so; one that has not ended has none
+abbrev pub IsStatusOf : Stat → Status → Type 0
+IsStatusOf Well status = status ≡ Done
+IsStatusOf (ByError num) status = status ≡ Unhandled num
+IsStatusOf AtJobLimit status = status ≡ Jobs
+IsStatusOf stat.Stuck status = status ≡ Stuck
+IsStatusOf Unfinished status = ⊥

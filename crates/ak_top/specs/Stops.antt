@@ -8,7 +8,6 @@ use Rattle.ak_syntax.specs.declared.refusal.ParseRefused.TheVariants as parse
 use Rattle.ak_valid.specs.declared.refusal.ValidRefused.{ValidRefused}
 use Rattle.ak_valid.specs.declared.refusal.ValidRefused.TheVariants as valid
 use Rattle.ak_syntax.specs.Grammar.{Reads}
-use Rattle.ak_valid.specs.Numbered.{numbered, main_of}
 use Rattle.ak_program.specs.Programs.{NumProgram}
 use Rattle.ak_words.specs.declared.command.Command.{Command}
 use Rattle.ak_top.specs.declared.reading.ReadError.{ReadError}
@@ -17,7 +16,7 @@ use Rattle.ak_top.specs.declared.status.Status.{Status}
 use Rattle.ak_top.specs.declared.status.Status.TheVariants as status
 use Rattle.ak_top.specs.declared.stop.Stop.{Stop}
 use Rattle.ak_top.specs.declared.stop.Stop.TheVariants.{ReadFault, Refused, NoMemory}
-use Rattle.ak_top.specs.Headline.{IsScript}
+use Rattle.ak_top.specs.Headline.{IsScript, program_of}
 use Rattle.ak_top.specs.Refusals.{ScriptFault, FaultFor, IsRefused}
 
 abbrev pub status_at : Stop → Status
@@ -42,7 +41,7 @@ pub record IsProgramOf (bytes : List ℕ) (program : NumProgram) : Type 0 where
   pub script : List Proc
   pub is_script : IsScript bytes script
   pub only : (other : List Proc) → Reads bytes other → script ≡ other
-  pub program_is : program ≡ record { procs = numbered script; main = main_of script }
+  pub program_is : program ≡ program_of script
 
 -- why these bytes stop a command
 abbrev pub StopsFor : Command → List ℕ → Stop → Type 0

@@ -1,7 +1,7 @@
 //! The command that tests a script.
 
 ghost use Rattle.std.specs.Prelude.{◌≡◌, ◌≤◌, ◌↔◌, ℕ, [], false, OnOk, OnErr, Some, codes, slice_get};
-ghost use Rattle.ak_base.specs.Streams.{Rose, grown, TookBeginning};
+ghost use Rattle.ak_base.specs.Streams.{Rose, HasWritten};
 ghost use Rattle.ak_words.specs.declared.command.Command.TheVariants.{Check};
 ghost use Rattle.ak_words.specs.Words.{Means, IsCommand, IsUsageFault};
 ghost use Rattle.ak_top.specs.Output.{valid_line};
@@ -89,33 +89,11 @@ pub(crate) fn check_command<S: Source, K: Sink>(
 
 // Writes the line of a script without a fault.
 fn write_valid<K: Sink>(sink: &mut K) -> Result<(), WriteFailed>
-    ensures takes { OnOk result (K.taken sink.new ≡ grown (K.taken sink.old) valid_line) }
-    ensures begins { OnErr result (TookBeginning (K.taken sink.old) (K.taken sink.new) valid_line) }
-    ensures never_falls { K.faults sink.old ≤ K.faults sink.new }
-    ensures cause { OnErr result (Rose (K.faults sink.old) (K.faults sink.new)) }
+    ensures { HasWritten result
+        (K.taken sink.old) (K.taken sink.new) (K.faults sink.old) (K.faults sink.new) valid_line }
 {
     let mut buffer = Buffer::new();
     buffer.put(sink, b"valid\n")?;
     buffer.flush(sink)?;
     Ok(())
-}
-
-#[cfg(test)]
-mod tests {
-    use super::*;
-    use ak_base::list::NoMemory;
-    use ak_base::memory::{MemSink, MemSource};
-
-    #[test]
-    fn a_script_is_tested(rt: HostRuntime) -> Result<(), NoMemory> {
-        let alloc = rt.alloc();
-        let words = vec![in alloc; Items::from_vec(Vec::from_slice(alloc, b"check")?)]?;
-        let script = Vec::from_slice(alloc, b"proc main\nend\n")?;
-        let mut source = MemSource::make(script, 4096, Vec::new(alloc));
-        let mut sink = MemSink::make(alloc, 100, 100, Vec::new(alloc))?;
-        let report = check_words(alloc, words.as_slice(), &mut source, &mut sink);
-        assert_eq!(rt; report.status, Status::Done);
-        assert_eq!(rt; sink.taken(), b"valid\n".as_slice());
-        Ok(())
-    }
 }

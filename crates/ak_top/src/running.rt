@@ -5,7 +5,7 @@ ghost use Rattle.ak_script.specs.declared.script.Proc.{Proc};
 ghost use Rattle.ak_crew.specs.Crews.{AreUnused};
 ghost use Rattle.ak_cycle.specs.Turns.{IsFinished};
 ghost use Rattle.ak_exec.specs.Built.{AreBuilt, FirstUnbuilt, statements};
-ghost use Rattle.ak_machine.specs.declared.config.Config.{Config as Settings};
+ghost use Rattle.ak_labor.specs.declared.config.Config.{Config as Settings};
 ghost use Rattle.ak_machine.specs.Status.{status_of};
 ghost use Rattle.ak_valid.specs.Numbered.{numbered};
 ghost use Rattle.ak_words.specs.declared.command.Command.TheVariants.{Run, Check};
@@ -21,8 +21,8 @@ use ak_base::source::Source;
 use ak_crew::crew::crew;
 use ak_exec::built::first_unbuilt;
 use ak_history::event::History;
+use ak_labor::config::Config;
 use ak_labor::labor::Labor;
-use ak_machine::config::Config;
 use ak_program::program::Program;
 use ak_syntax::parse::parse;
 use ak_trace::entry::Trace;
@@ -51,6 +51,7 @@ pub fn run_source<S: Source, L: Labor + Drop, R: Threads + Wait + Sync>(
 ) -> (Result<Ran, Stop>, Vec<L>)
     requires limit { 1 ≤ config.limit }
     requires threads { (1 ≤ config.threads) × (config.threads ≤ 32) }
+    requires askers { config.askers ≡ 0 }
     requires hands { AreUnused L.carried config.threads hands.items }
     ensures ran { IfOk result.0 (λ ran. IsRun config (S.left source.old) ran.trace ran.history) }
     ensures finished { IfOk result.0 (λ ran. IsFinished (status_of ran.trace)) }
@@ -104,6 +105,7 @@ fn run_bytes<L: Labor + Drop, R: Threads + Wait + Sync>(
 ) -> (Result<Ran, Stop>, Vec<L>)
     requires limit { 1 ≤ config.limit }
     requires threads { (1 ≤ config.threads) × (config.threads ≤ 32) }
+    requires askers { config.askers ≡ 0 }
     requires hands { AreUnused L.carried config.threads hands.items }
     ensures ran { IfOk result.0 (λ ran. RunsTo config bytes.now ran.trace ran.history) }
     ensures finished { IfOk result.0 (λ ran. IsFinished (status_of ran.trace)) }
@@ -130,6 +132,7 @@ fn run_program<L: Labor + Drop, R: Threads + Wait + Sync>(
 ) -> (Result<Ran, Stop>, Vec<L>)
     requires limit { 1 ≤ config.limit }
     requires threads { (1 ≤ config.threads) × (config.threads ≤ 32) }
+    requires askers { config.askers ≡ 0 }
     requires hands { AreUnused L.carried config.threads hands.items }
     requires program { IsProgramOf bytes.now program }
     requires built { AreBuilt program.procs }

@@ -4,7 +4,7 @@ ghost use Rattle.std.specs.Prelude.{◌≡◌, ◌∷◌, ◌++◌, IfOk, OnOk, 
 ghost use Rattle.ak_machine.specs.Status.{status_back, status_of};
 ghost use Rattle.ak_cycle.specs.Turns.{IsFinished};
 ghost use Rattle.ak_text.specs.Decimal.{decimal_of};
-ghost use Rattle.ak_top.specs.Status.{number_of, message_of, name_of_kind, status_by};
+ghost use Rattle.ak_top.specs.Status.{number_of, message_of, name_of_kind, IsStatusOf};
 
 use ak_base::list::NoMemory;
 use ak_base::number::Num;
@@ -58,7 +58,7 @@ impl Status {
 /// The status that the last entries of a trace tell, where the trace has its end.
 pub fn status_of_trace(trace: &Trace) -> Status
     requires { IsFinished (status_of trace.now) }
-    ensures { result ≡ status_by (status_of trace.now) }
+    ensures { IsStatusOf (status_of trace.now) result }
 {
     match trace.as_slice() {
         [before @ .., Entry::End { why }] => status_at_end(before, *why),
@@ -69,7 +69,7 @@ pub fn status_of_trace(trace: &Trace) -> Status
 // The status of a run that ended for a reason, behind these entries.
 fn status_at_end(before: &[Entry], why: Ending) -> Status
     requires { IsFinished (status_back (Entry.End why ∷ reverse before.now)) }
-    ensures { result ≡ status_by (status_back (Entry.End why ∷ reverse before.now)) }
+    ensures { IsStatusOf (status_back (Entry.End why ∷ reverse before.now)) result }
 {
     match why {
         Ending::Idle => Status::Done,

@@ -2,7 +2,7 @@
 
 ghost use Rattle.std.specs.Prelude.{◌≡◌, ◌≢◌, ◌≤◌, ◌↔◌, ◌⊎◌, ℕ, [], length, false, OnOk, OnErr};
 ghost use Rattle.std.specs.List.{AllByRecursion};
-ghost use Rattle.ak_base.specs.Streams.{Rose, grown, TookBeginning};
+ghost use Rattle.ak_base.specs.Streams.{Rose, HasWritten};
 ghost use Rattle.ak_crew.specs.Crews.{AreUnused};
 ghost use Rattle.ak_cycle.specs.Turns.{IsFinished};
 ghost use Rattle.ak_machine.specs.Status.{status_of};
@@ -12,7 +12,7 @@ ghost use Rattle.ak_top.specs.Hands.{AreAfterRun, AreAfter};
 ghost use Rattle.ak_top.specs.Output.{output, output_of};
 ghost use Rattle.ak_top.specs.Refusals.{TellsScript};
 ghost use Rattle.ak_top.specs.Reports.{is_carried_out, Took, Reports, ReportsRun, EndsWell};
-ghost use Rattle.ak_top.specs.Status.{status_by};
+ghost use Rattle.ak_top.specs.Status.{IsStatusOf};
 
 use crate::check::{check_command, without_run};
 use crate::running::{Ran, run_source};
@@ -23,8 +23,8 @@ use ak_base::sink::{Sink, WriteFailed};
 use ak_base::source::Source;
 use ak_history::event::History;
 use ak_history::text::put_history;
+use ak_labor::config::Config;
 use ak_labor::labor::Labor;
-use ak_machine::config::Config;
 use ak_trace::entry::Trace;
 use ak_trace::text::put_trace;
 use ak_words::command::{Command, read_command};
@@ -95,6 +95,7 @@ fn run_command<S: Source, K: Sink, L: Labor + Drop, R: Threads + Wait + Sync>(
 ) -> (Report, Vec<L>)
     requires limit { 1 ≤ config.limit }
     requires threads { (1 ≤ config.threads) × (config.threads ≤ 32) }
+    requires askers { config.askers ≡ 0 }
     requires hands { AreUnused L.carried config.threads hands.items }
     ensures reports { ReportsRun config (S.left source.old) result.0 }
     ensures took { Took result.0.status (K.taken sink.old) (K.taken sink.new) (output result.0.trace result.0.history) }
@@ -117,7 +118,7 @@ fn write_run<K: Sink>(ran: Ran, sink: &mut K) -> Report
     requires { IsFinished (status_of ran.trace) }
     ensures trace { result.trace ≡ ran.trace }
     ensures history { result.history ≡ ran.history }
-    ensures status { (result.status ≡ status_by (status_of ran.trace)) ⊎ (result.status ≡ Status.WriteFault) }
+    ensures status { IsStatusOf (status_of ran.trace) result.status ⊎ (result.status ≡ Status.WriteFault) }
     ensures took { Took result.status (K.taken sink.old) (K.taken sink.new) (output ran.trace ran.history) }
     ensures write_fault { result.status ≡ Status.WriteFault → Rose (K.faults sink.old) (K.faults sink.new) }
     ensures faults { K.faults sink.old ≤ K.faults sink.new }
@@ -136,10 +137,8 @@ fn write_run<K: Sink>(ran: Ran, sink: &mut K) -> Report
 
 // Writes the text of a trace and of a history.
 fn write_output<K: Sink>(trace: &Trace, history: &History, sink: &mut K) -> Result<(), WriteFailed>
-    ensures takes { OnOk result (K.taken sink.new ≡ grown (K.taken sink.old) (output trace.now history.now)) }
-    ensures begins { OnErr result (TookBeginning (K.taken sink.old) (K.taken sink.new) (output trace.now history.now)) }
-    ensures never_falls { K.faults sink.old ≤ K.faults sink.new }
-    ensures cause { OnErr result (Rose (K.faults sink.old) (K.faults sink.new)) }
+    ensures { HasWritten result
+        (K.taken sink.old) (K.taken sink.new) (K.faults sink.old) (K.faults sink.new) (output trace.now history.now) }
 {
     let mut buffer = Buffer::new();
     put_trace(trace, &mut buffer, sink)?;

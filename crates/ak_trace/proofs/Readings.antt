@@ -1,12 +1,12 @@
 -- What the reader of traces answers, and that a trace that was written is read back.
 use Rattle.std.proofs.Common.{◌≡◌, ◌≢◌, ℕ, List, [], ◌∷◌, ◌++◌, map, flat_map, Result, Ok, Err, Option, Some, None, ◌⊎◌, inl, inr, refl, sym, ap, ◌∙◌, subst}
 use Rattle.std.specs.List.{AllZip, AllByRecursion}
-use Rattle.ak_text.specs.Lines.{TextLine}
+use Rattle.ak_text.specs.Lines.{TextLine, counting_lines}
 use Rattle.ak_labor.specs.declared.work.Outcome.{Outcome}
 use Rattle.ak_labor.specs.declared.work.Outcome.TheVariants.{Good, Bad}
 use Rattle.ak_print.specs.Work.{outcome_words}
 use Rattle.ak_print.specs.Line.{line_text}
-use Rattle.ak_row.specs.Places.{IsRow, outcome_places, counting_lines}
+use Rattle.ak_row.specs.Places.{IsRow, outcome_places}
 use Rattle.ak_row.specs.Plain.{place_word, row_text, IsPlainRow}
 use Rattle.ak_row.proofs.Fitting.{one_list, none_bad, one_first_bad, by_rows, read_or_bad}
 use Rattle.ak_row.proofs.ReadBack.{reads_back}
@@ -63,6 +63,8 @@ row_words_written (entry.Submit work kind num) = refl
 row_words_written (entry.Helper helper granted) = refl
 row_words_written (entry.Arrive work (Good num)) = refl
 row_words_written (entry.Arrive work (Bad num)) = refl
+row_words_written (entry.Request request num result) = refl
+row_words_written (entry.Answer request num) = refl
 row_words_written (entry.End why) = refl
 
 text_by_rows : (entries : List Entry) → trace_text entries ≡ flat_map row_text (map entry_row entries)
@@ -88,6 +90,8 @@ has_words (entry.Unhandled num) h = cc
 has_words (entry.Submit work kind num) h = cc
 has_words (entry.Helper helper granted) h = cc
 has_words (entry.Arrive work outcome) h = cc
+has_words (entry.Request request num result) h = cc
+has_words (entry.Answer request num) h = cc
 has_words (entry.End why) h = cc
 
 plain_rows : (entries : List Entry) → AllByRecursion IsInRange entries → AllByRecursion IsPlainRow (map entry_row entries)

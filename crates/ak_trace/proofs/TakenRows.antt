@@ -6,7 +6,7 @@ use Rattle.std.specs.Str.{bytes_eq}
 use Rattle.ak_text.specs.Lines.{TextLine, words_of, has_bad_byte}
 use Rattle.ak_row.specs.Places.{Place, Exactly, Stands}
 use Rattle.ak_row.specs.Parts.{Part, ◌>>=◌, mapped, whole, row_words}
-use Rattle.ak_row.proofs.Parts.{IsPart, item_part, both_part, mapped_sound, mapped_complete, table_reads, table_item, thing_part, job_part, signed_part, kind_part, outcome_part, whole_sound, whole_complete}
+use Rattle.ak_row.proofs.Parts.{IsPart, item_part, both_part, mapped_sound, mapped_complete, table_reads, table_item, thing_part, long_part, signed_part, kind_part, outcome_part, whole_sound, whole_complete}
 use Rattle.ak_trace.specs.declared.entry.Ending.{Ending}
 use Rattle.ak_trace.specs.declared.entry.Ending.TheVariants as ending
 use Rattle.ak_trace.specs.declared.entry.Entry.{Entry}
@@ -70,8 +70,8 @@ BeginsRow word words left e = (places : List Place) → AllZip Stands places lef
 job_entry_sound : (first : JobWord) (words left : List (List ℕ)) (e : Entry) → job_entry first words ≡ Some (e, left) → BeginsRow (job_word first) words left e
 unfolding job_entry
 job_entry_sound job.Cycle words left e = mapped_sound (λ t. entry.Cycle) (codes "cycle") entry_row nothing_part (λ t. refl) words left e
-job_entry_sound job.Enq words left e = mapped_sound (λ t. entry.Enq t.0 t.1) (codes "enq") entry_row (both_part job_part priority_part) (λ t. refl) words left e
-job_entry_sound job.Job words left e = mapped_sound (λ t. entry.Job t) (codes "job") entry_row job_part (λ t. refl) words left e
+job_entry_sound job.Enq words left e = mapped_sound (λ t. entry.Enq t.0 t.1) (codes "enq") entry_row (both_part long_part priority_part) (λ t. refl) words left e
+job_entry_sound job.Job words left e = mapped_sound (λ t. entry.Job t) (codes "job") entry_row long_part (λ t. refl) words left e
 job_entry_sound job.Fill words left e = mapped_sound (λ t. entry.Fill t.0 t.1) (codes "fill") entry_row (both_part thing_part signed_part) (λ t. refl) words left e
 job_entry_sound job.Join words left e = mapped_sound (λ t. entry.Join t.0 t.1) (codes "join") entry_row (both_part thing_part thing_part) (λ t. refl) words left e
 job_entry_sound job.Print words left e = mapped_sound (λ t. entry.Print t) (codes "print") entry_row signed_part (λ t. refl) words left e
@@ -91,6 +91,11 @@ unfolding pool_entry
 pool_entry_sound pool.Submit words left e = mapped_sound (λ t. entry.Submit t.0 t.1.0 t.1.1) (codes "submit") entry_row (both_part thing_part (both_part kind_part signed_part)) (λ t. refl) words left e
 pool_entry_sound pool.Helper words left e = mapped_sound (λ t. entry.Helper t.0 t.1) (codes "helper") entry_row (both_part thing_part answer_part) (λ t. refl) words left e
 pool_entry_sound pool.Arrive words left e = mapped_sound (λ t. entry.Arrive t.0 t.1) (codes "arrive") entry_row (both_part thing_part outcome_part) (λ t. refl) words left e
+pool_entry_sound pool.Request words left e =
+    mapped_sound (λ t. entry.Request t.0 t.1.0 t.1.1) (codes "request") entry_row (both_part long_part (both_part signed_part thing_part)) (λ t. refl)
+    words left e
+pool_entry_sound pool.Answer words left e =
+    mapped_sound (λ t. entry.Answer t.0 t.1) (codes "answer") entry_row (both_part long_part signed_part) (λ t. refl) words left e
 pool_entry_sound pool.End words left e = mapped_sound (λ t. entry.End t) (codes "end") entry_row ending_part (λ t. refl) words left e
 
 begun_or_sound : {K : Type 0} (text : K → List ℕ) (table : List K) (word : List ℕ) (begun : K → Part Entry) (other : Part Entry) (words left : List (List ℕ)) (e : Entry)
@@ -131,8 +136,8 @@ row_complete f first p begins x (word ∷ words) places h =
 entry_at_complete : (words : List (List ℕ)) (e : Entry) (places : List Place) → AllZip Stands (entry_row e ++ places) words → Takes words e places
 unfolding entry_behind job_named job_entry error_named error_entry pool_named pool_entry
 entry_at_complete words entry.Cycle places h = row_complete (λ t. entry.Cycle) (codes "cycle") nothing_part (λ ws. refl) tt words places h
-entry_at_complete words (entry.Enq job low) places h = row_complete (λ t. entry.Enq t.0 t.1) (codes "enq") (both_part job_part priority_part) (λ ws. refl) (job, low) words places h
-entry_at_complete words (entry.Job job) places h = row_complete (λ t. entry.Job t) (codes "job") job_part (λ ws. refl) job words places h
+entry_at_complete words (entry.Enq job low) places h = row_complete (λ t. entry.Enq t.0 t.1) (codes "enq") (both_part long_part priority_part) (λ ws. refl) (job, low) words places h
+entry_at_complete words (entry.Job job) places h = row_complete (λ t. entry.Job t) (codes "job") long_part (λ ws. refl) job words places h
 entry_at_complete words (entry.Fill ivar num) places h = row_complete (λ t. entry.Fill t.0 t.1) (codes "fill") (both_part thing_part signed_part) (λ ws. refl) (ivar, num) words places h
 entry_at_complete words (entry.Join result right) places h = row_complete (λ t. entry.Join t.0 t.1) (codes "join") (both_part thing_part thing_part) (λ ws. refl) (result, right) words places h
 entry_at_complete words (entry.Print num) places h = row_complete (λ t. entry.Print t) (codes "print") signed_part (λ ws. refl) num words places h
@@ -146,6 +151,11 @@ entry_at_complete words (entry.Unhandled num) places h = row_complete (λ t. ent
 entry_at_complete words (entry.Submit work kind num) places h = row_complete (λ t. entry.Submit t.0 t.1.0 t.1.1) (codes "submit") (both_part thing_part (both_part kind_part signed_part)) (λ ws. refl) (work, (kind, num)) words places h
 entry_at_complete words (entry.Helper helper granted) places h = row_complete (λ t. entry.Helper t.0 t.1) (codes "helper") (both_part thing_part answer_part) (λ ws. refl) (helper, granted) words places h
 entry_at_complete words (entry.Arrive work outcome) places h = row_complete (λ t. entry.Arrive t.0 t.1) (codes "arrive") (both_part thing_part outcome_part) (λ ws. refl) (work, outcome) words places h
+entry_at_complete words (entry.Request request num result) places h =
+    row_complete (λ t. entry.Request t.0 t.1.0 t.1.1) (codes "request") (both_part long_part (both_part signed_part thing_part)) (λ ws. refl)
+    (request, (num, result)) words places h
+entry_at_complete words (entry.Answer request num) places h =
+    row_complete (λ t. entry.Answer t.0 t.1) (codes "answer") (both_part long_part signed_part) (λ ws. refl) (request, num) words places h
 entry_at_complete words (entry.End why) places h = row_complete (λ t. entry.End t) (codes "end") ending_part (λ ws. refl) why words places h
 
 entry_part : IsPart entry_row entry_at

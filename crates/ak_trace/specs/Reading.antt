@@ -1,10 +1,10 @@
 -- The trace that a text is: a relation that takes more spellings than the writer makes.
 use Rattle.std.specs.Prelude.{◌≡◌, ℕ, Result, Ok, Err, List, [], ◌∷◌, codes}
 use Rattle.std.specs.List.{AllZip, AllByRecursion}
-use Rattle.ak_text.specs.Lines.{TextLine}
+use Rattle.ak_text.specs.Lines.{TextLine, counting_lines}
 use Rattle.ak_print.specs.Work.{kind_word}
 use Rattle.ak_row.specs.Faults.{IsFirstBad}
-use Rattle.ak_row.specs.Places.{Place, Exactly, Thing, JobNumber, Signed, outcome_places, IsRow, counting_lines}
+use Rattle.ak_row.specs.Places.{Place, Exactly, Thing, LongNumber, Signed, outcome_places, IsRow}
 use Rattle.ak_row.specs.Plain.{IsPlain}
 use Rattle.ak_trace.specs.declared.entry.Entry.{Entry}
 use Rattle.ak_trace.specs.declared.entry.Entry.TheVariants as entry
@@ -15,8 +15,8 @@ use Rattle.ak_trace.specs.Text.{priority_word, answer_word, ending_word}
 -- what the words of an entry's line stand for
 abbrev pub entry_row : Entry → List Place
 entry_row entry.Cycle = Exactly (codes "cycle") ∷ []
-entry_row (entry.Enq job low) = Exactly (codes "enq") ∷ JobNumber job ∷ Exactly (priority_word low) ∷ []
-entry_row (entry.Job job) = Exactly (codes "job") ∷ JobNumber job ∷ []
+entry_row (entry.Enq job low) = Exactly (codes "enq") ∷ LongNumber job ∷ Exactly (priority_word low) ∷ []
+entry_row (entry.Job job) = Exactly (codes "job") ∷ LongNumber job ∷ []
 entry_row (entry.Fill ivar num) = Exactly (codes "fill") ∷ Thing ivar ∷ Signed num ∷ []
 entry_row (entry.Join result right) = Exactly (codes "join") ∷ Thing result ∷ Thing right ∷ []
 entry_row (entry.Print num) = Exactly (codes "print") ∷ Signed num ∷ []
@@ -30,6 +30,9 @@ entry_row (entry.Unhandled num) = Exactly (codes "unhandled") ∷ Signed num ∷
 entry_row (entry.Submit work kind num) = Exactly (codes "submit") ∷ Thing work ∷ Exactly (kind_word kind) ∷ Signed num ∷ []
 entry_row (entry.Helper helper granted) = Exactly (codes "helper") ∷ Thing helper ∷ Exactly (answer_word granted) ∷ []
 entry_row (entry.Arrive work outcome) = Exactly (codes "arrive") ∷ Thing work ∷ outcome_places outcome
+entry_row (entry.Request request num result) =
+    Exactly (codes "request") ∷ LongNumber request ∷ Signed num ∷ Thing result ∷ []
+entry_row (entry.Answer request num) = Exactly (codes "answer") ∷ LongNumber request ∷ Signed num ∷ []
 entry_row (entry.End why) = Exactly (codes "end") ∷ Exactly (ending_word why) ∷ []
 
 -- the line is the entry's

@@ -3,7 +3,7 @@ use Rattle.std.specs.Prelude.{ℕ, Bool, true, false, Option, Some, None, List, 
 use Rattle.std.specs.List.{find}
 use Rattle.std.specs.Str.{bytes_eq}
 use Rattle.ak_text.specs.Lines.{TextLine}
-use Rattle.ak_row.specs.Parts.{Part, ◌>>=◌, both, mapped, word_at, found_at, thing_at, job_at, signed_at, kind_at, outcome_at, whole, row_words}
+use Rattle.ak_row.specs.Parts.{Part, ◌>>=◌, both, mapped, word_at, found_at, thing_at, long_at, signed_at, kind_at, outcome_at, whole, row_words}
 use Rattle.ak_trace.specs.declared.entry.Ending.{Ending}
 use Rattle.ak_trace.specs.declared.entry.Ending.TheVariants as ending
 use Rattle.ak_trace.specs.declared.entry.Entry.{Entry}
@@ -50,10 +50,12 @@ abbrev pub pool_word : PoolWord → List ℕ
 pool_word pool.Submit = codes "submit"
 pool_word pool.Helper = codes "helper"
 pool_word pool.Arrive = codes "arrive"
+pool_word pool.Request = codes "request"
+pool_word pool.Answer = codes "answer"
 pool_word pool.End = codes "end"
 
 abbrev pub all_pool_words : List PoolWord
-all_pool_words = pool.Submit ∷ pool.Helper ∷ pool.Arrive ∷ pool.End ∷ []
+all_pool_words = pool.Submit ∷ pool.Helper ∷ pool.Arrive ∷ pool.Request ∷ pool.Answer ∷ pool.End ∷ []
 
 unfoldable pub pool_named : List ℕ → Option PoolWord
 pool_named word = find (λ first. bytes_eq (pool_word first) word) all_pool_words
@@ -89,8 +91,8 @@ nothing_at words = Some (tt, words)
 
 unfoldable pub job_entry : JobWord → Part Entry
 job_entry job.Cycle = mapped (λ t. entry.Cycle) nothing_at
-job_entry job.Enq = mapped (λ t. entry.Enq t.0 t.1) (both job_at priority_at)
-job_entry job.Job = mapped (λ t. entry.Job t) job_at
+job_entry job.Enq = mapped (λ t. entry.Enq t.0 t.1) (both long_at priority_at)
+job_entry job.Job = mapped (λ t. entry.Job t) long_at
 job_entry job.Fill = mapped (λ t. entry.Fill t.0 t.1) (both thing_at signed_at)
 job_entry job.Join = mapped (λ t. entry.Join t.0 t.1) (both thing_at thing_at)
 job_entry job.Print = mapped (λ t. entry.Print t) signed_at
@@ -108,6 +110,8 @@ unfoldable pub pool_entry : PoolWord → Part Entry
 pool_entry pool.Submit = mapped (λ t. entry.Submit t.0 t.1.0 t.1.1) (both thing_at (both kind_at signed_at))
 pool_entry pool.Helper = mapped (λ t. entry.Helper t.0 t.1) (both thing_at answer_at)
 pool_entry pool.Arrive = mapped (λ t. entry.Arrive t.0 t.1) (both thing_at outcome_at)
+pool_entry pool.Request = mapped (λ t. entry.Request t.0 t.1.0 t.1.1) (both long_at (both signed_at thing_at))
+pool_entry pool.Answer = mapped (λ t. entry.Answer t.0 t.1) (both long_at signed_at)
 pool_entry pool.End = mapped (λ t. entry.End t) ending_at
 
 -- what the first word begins, where it is one of the group

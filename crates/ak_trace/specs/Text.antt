@@ -44,6 +44,8 @@ entry_words (entry.Unhandled num) = codes "unhandled" ∷ decimal_of num ∷ []
 entry_words (entry.Submit work kind num) = codes "submit" ∷ decimal work ∷ kind_word kind ∷ decimal_of num ∷ []
 entry_words (entry.Helper helper granted) = codes "helper" ∷ decimal helper ∷ answer_word granted ∷ []
 entry_words (entry.Arrive work outcome) = codes "arrive" ∷ decimal work ∷ outcome_words outcome
+entry_words (entry.Request request num result) = codes "request" ∷ decimal request ∷ decimal_of num ∷ decimal result ∷ []
+entry_words (entry.Answer request num) = codes "answer" ∷ decimal request ∷ decimal_of num ∷ []
 entry_words (entry.End why) = codes "end" ∷ ending_word why ∷ []
 
 -- an entry's line

@@ -90,12 +90,14 @@ impl ErrorWord {
     }
 }
 
-/// First words of entries on works and helpers, and of the last entry.
+/// First words of entries on works, helpers and requests, and of the last entry.
 #[derive(Clone, Copy, PartialEq, Eq, Debug)]
 pub enum PoolWord {
     Submit,
     Helper,
     Arrive,
+    Request,
+    Answer,
     End,
 }
 
@@ -107,6 +109,8 @@ impl PoolWord {
             PoolWord::Submit => b"submit",
             PoolWord::Helper => b"helper",
             PoolWord::Arrive => b"arrive",
+            PoolWord::Request => b"request",
+            PoolWord::Answer => b"answer",
             PoolWord::End => b"end",
         }
     }
@@ -120,6 +124,8 @@ impl PoolWord {
             PoolWord::Submit,
             PoolWord::Helper,
             PoolWord::Arrive,
+            PoolWord::Request,
+            PoolWord::Answer,
             PoolWord::End,
         ];
         all.iter().copied().find(|first| first.bytes() == word)

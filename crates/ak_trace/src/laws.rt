@@ -81,6 +81,13 @@ fn in_range(entry: Entry)
         Entry::Helper { no, .. } => {
             no.number();
         }
+        Entry::Request { no, result, .. } => {
+            no.number();
+            result.number();
+        }
+        Entry::Answer { no, .. } => {
+            no.number();
+        }
         Entry::Print { .. } | Entry::Rest { .. } | Entry::Unhandled { .. } => {}
     }
 }

@@ -111,7 +111,7 @@ fn error_entry(first: ErrorWord, row: &mut Row) -> Option<Entry>
     }
 }
 
-/// Entries on works and helpers, and the last entry.
+/// Entries on works, helpers and requests, and the last entry.
 #[tactic(auto, unfolding(crate::specs::Taken::pool_entry))]
 fn pool_entry(first: PoolWord, row: &mut Row) -> Option<Entry>
     ensures { Leaves (λ e. e) result row.new (pool_entry first row.old) }
@@ -132,6 +132,17 @@ fn pool_entry(first: PoolWord, row: &mut Row) -> Option<Entry>
             let work = row.number()?;
             let outcome = row.outcome()?;
             Some(Entry::Arrive { work, outcome })
+        }
+        PoolWord::Request => {
+            let no = row.request()?;
+            let num = row.signed()?;
+            let result = row.number()?;
+            Some(Entry::Request { no, num, result })
+        }
+        PoolWord::Answer => {
+            let no = row.request()?;
+            let num = row.signed()?;
+            Some(Entry::Answer { no, num })
         }
         PoolWord::End => {
             let why = ending(row)?;

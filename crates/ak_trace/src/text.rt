@@ -1,7 +1,7 @@
 //! The text of a trace.
 
-ghost use Rattle.std.specs.Prelude.{◌≡◌, ◌≤◌, ◌++◌, [], OnOk, OnErr};
-ghost use Rattle.ak_base.specs.Streams.{Rose, grown, TookBeginning, Passes};
+ghost use Rattle.std.specs.Prelude.{◌≡◌};
+ghost use Rattle.ak_base.specs.Streams.{HasWritten, HasPut};
 ghost use Rattle.ak_trace.specs.Text.{entry_text, trace_text};
 
 use crate::entry::{Ending, Entry, Trace};
@@ -18,10 +18,8 @@ use ak_print::piece::{Piece, put_pieces};
 ///
 /// `WriteFailed`, only where the sink's count of faults rose. A beginning of the text was then taken.
 pub fn write_trace<K: Sink>(t: &Trace, sink: &mut K) -> Result<(), WriteFailed>
-    ensures takes { OnOk result (K.taken sink.new ≡ grown (K.taken sink.old) (trace_text t.now)) }
-    ensures begins { OnErr result (TookBeginning (K.taken sink.old) (K.taken sink.new) (trace_text t.now)) }
-    ensures never_falls { K.faults sink.old ≤ K.faults sink.new }
-    ensures cause { OnErr result (Rose (K.faults sink.old) (K.faults sink.new)) }
+    ensures { HasWritten result
+        (K.taken sink.old) (K.taken sink.new) (K.faults sink.old) (K.faults sink.new) (trace_text t.now) }
 {
     let mut buffer = Buffer::new();
     put_trace(t, &mut buffer, sink)?;
@@ -36,13 +34,9 @@ pub fn write_trace<K: Sink>(t: &Trace, sink: &mut K) -> Result<(), WriteFailed>
 /// `WriteFailed`, only where the sink's count of faults rose. A beginning of what waited and of the text was then
 /// taken, and the rest is lost.
 pub fn put_trace<K: Sink>(t: &Trace, buffer: &mut Buffer, sink: &mut K) -> Result<(), WriteFailed>
-    ensures passes { OnOk result
-        (Passes (K.taken sink.old) (K.taken sink.new) buffer.old buffer.new (trace_text t.now)) }
-    ensures begins { OnErr result
-        (TookBeginning (K.taken sink.old) (K.taken sink.new) (buffer.old ++ trace_text t.now)) }
-    ensures lost { OnErr result (buffer.new ≡ []) }
-    ensures never_falls { K.faults sink.old ≤ K.faults sink.new }
-    ensures cause { OnErr result (Rose (K.faults sink.old) (K.faults sink.new)) }
+    ensures { HasPut result
+        (K.taken sink.old) (K.taken sink.new) (K.faults sink.old) (K.faults sink.new)
+        buffer.old buffer.new (trace_text t.now) }
 {
     put_entries(t.as_slice(), buffer, sink)
 }
@@ -53,13 +47,9 @@ fn put_entries<K: Sink>(
     buffer: &mut Buffer,
     sink: &mut K,
 ) -> Result<(), WriteFailed>
-    ensures passes { OnOk result
-        (Passes (K.taken sink.old) (K.taken sink.new) buffer.old buffer.new (trace_text entries.now)) }
-    ensures begins { OnErr result
-        (TookBeginning (K.taken sink.old) (K.taken sink.new) (buffer.old ++ trace_text entries.now)) }
-    ensures lost { OnErr result (buffer.new ≡ []) }
-    ensures never_falls { K.faults sink.old ≤ K.faults sink.new }
-    ensures cause { OnErr result (Rose (K.faults sink.old) (K.faults sink.new)) }
+    ensures { HasPut result
+        (K.taken sink.old) (K.taken sink.new) (K.faults sink.old) (K.faults sink.new)
+        buffer.old buffer.new (trace_text entries.now) }
 {
     for entry in entries {
         put_entry(*entry, buffer, sink)?;
@@ -69,13 +59,9 @@ fn put_entries<K: Sink>(
 
 // Puts an entry's line behind what waits.
 fn put_entry<K: Sink>(entry: Entry, buffer: &mut Buffer, sink: &mut K) -> Result<(), WriteFailed>
-    ensures passes { OnOk result
-        (Passes (K.taken sink.old) (K.taken sink.new) buffer.old buffer.new (entry_text entry)) }
-    ensures begins { OnErr result
-        (TookBeginning (K.taken sink.old) (K.taken sink.new) (buffer.old ++ entry_text entry)) }
-    ensures lost { OnErr result (buffer.new ≡ []) }
-    ensures never_falls { K.faults sink.old ≤ K.faults sink.new }
-    ensures cause { OnErr result (Rose (K.faults sink.old) (K.faults sink.new)) }
+    ensures { HasPut result
+        (K.taken sink.old) (K.taken sink.new) (K.faults sink.old) (K.faults sink.new)
+        buffer.old buffer.new (entry_text entry) }
 {
     match entry {
         Entry::Cycle => put_pieces(&[Text("cycle\n")], buffer, sink),
@@ -182,6 +168,30 @@ fn put_entry<K: Sink>(entry: Entry, buffer: &mut Buffer, sink: &mut K) -> Result
             sink,
         ),
         Entry::Arrive { work, outcome } => put_arrival(work, outcome, buffer, sink),
+        Entry::Request { no, num, result } => put_pieces(
+            &[
+                Text("request "),
+                Piece::request(no),
+                Text(" "),
+                Num(num),
+                Text(" "),
+                Piece::number(result),
+                Text("\n"),
+            ],
+            buffer,
+            sink,
+        ),
+        Entry::Answer { no, num } => put_pieces(
+            &[
+                Text("answer "),
+                Piece::request(no),
+                Text(" "),
+                Num(num),
+                Text("\n"),
+            ],
+            buffer,
+            sink,
+        ),
         Entry::End { why } => put_pieces(&[Text(end_line(why))], buffer, sink),
     }
 }
@@ -193,13 +203,9 @@ fn put_arrival<K: Sink>(
     buffer: &mut Buffer,
     sink: &mut K,
 ) -> Result<(), WriteFailed>
-    ensures passes { OnOk result (Passes (K.taken sink.old) (K.taken sink.new) buffer.old buffer.new
-        (entry_text (Entry.Arrive work outcome))) }
-    ensures begins { OnErr result (TookBeginning (K.taken sink.old) (K.taken sink.new)
-        (buffer.old ++ entry_text (Entry.Arrive work outcome))) }
-    ensures lost { OnErr result (buffer.new ≡ []) }
-    ensures never_falls { K.faults sink.old ≤ K.faults sink.new }
-    ensures cause { OnErr result (Rose (K.faults sink.old) (K.faults sink.new)) }
+    ensures { HasPut result
+        (K.taken sink.old) (K.taken sink.new) (K.faults sink.old) (K.faults sink.new)
+        buffer.old buffer.new (entry_text (Entry.Arrive work outcome)) }
 {
     match outcome {
         Outcome::Good(num) => put_pieces(

@@ -8,7 +8,7 @@ use Rattle.std.specs.Str.{bytes_eq}
 use Rattle.ak_script.specs.declared.script.Param.{Param}
 use Rattle.ak_script.specs.declared.script.Statement.{Statement}
 use Rattle.ak_script.specs.declared.script.Proc.{Proc}
-use Rattle.ak_syntax.specs.Table.{binds}
+use Rattle.ak_script.specs.Statements.{binds}
 use Rattle.ak_valid.specs.declared.refusal.FaultKind.TheVariants.{UnknownName, NoMain}
 use Rattle.ak_valid.specs.declared.refusal.ValidRefused.{ValidRefused}
 use Rattle.ak_valid.specs.Numbered.{proc_names, param_names}

@@ -5,7 +5,7 @@ use Rattle.std.specs.Option.{option_map_or}
 use Rattle.ak_script.specs.declared.script.Param.{Param}
 use Rattle.ak_script.specs.declared.script.Statement.{Statement}
 use Rattle.ak_script.specs.declared.script.Proc.{Proc}
-use Rattle.ak_syntax.specs.Table.{binds}
+use Rattle.ak_script.specs.Statements.{binds}
 use Rattle.ak_valid.specs.declared.refusal.FaultKind.{FaultKind}
 use Rattle.ak_valid.specs.declared.refusal.ValidRefused.{ValidRefused}
 use Rattle.ak_valid.specs.declared.refusal.ValidRefused.TheVariants.{At, NoMemory}

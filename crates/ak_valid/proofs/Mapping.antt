@@ -4,7 +4,7 @@ use Rattle.std.proofs.lemmas.List.{map-append}
 use Rattle.std.specs.List.{flat_map}
 use Rattle.ak_script.specs.declared.script.Param.{Param}
 use Rattle.ak_script.specs.declared.script.Statement.{Statement}
-use Rattle.ak_syntax.specs.Table.{binds}
+use Rattle.ak_script.specs.Statements.{binds}
 use Rattle.ak_valid.specs.Numbered.{param_names}
 use Rattle.ak_valid.proofs.Naming.{take_next}
 

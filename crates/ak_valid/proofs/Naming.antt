@@ -1,9 +1,10 @@
 -- Names in a list, and behind references.
 use Rattle.std.proofs.Common.{◌≡◌, ◌≢◌, ℕ, zero, suc, take, get_or, ◌+◌, ◌<◌, Bool, true, false, not, ◌||◌, cond, List, [], ◌∷◌, ◌++◌, length, map, refl, sym, ap, ◌∙◌, arith, Bor}
 use Rattle.std.proofs.lemmas.List.{map-append}
-use Rattle.std.specs.List.{AllByRecursion, list_any, position_or_len}
+use Rattle.std.specs.List.{list_any, position_or_len}
 use Rattle.std.specs.Str.{bytes_eq}
 use Rattle.std.proofs.lemmas.Slice.Eq.{bytes_eq-Decides}
+use Rattle.ak_base.proofs.Lists.{all_push, all_between}
 use Rattle.ak_valid.specs.Valid.{AreDistinct}
 
 pub any_mapped : {A B : Type 0} (p : B → Bool) (f : A → B) (xs : List A) → list_any p (map f xs) ≡ list_any (λ x. p (f x)) xs
@@ -26,14 +27,6 @@ added keys new k old fresh is was then =
     of true f n = rw (f, n) is
     of false f n = rw (f, n, map-append) (ap (λ (names : List (List ℕ)). names ++ k.now ∷ []) is)
 
-pub all_push : {A : Type 0} (P : A → Type 0) (xs : List A) (x : A) → AllByRecursion P xs → P x → AllByRecursion P (xs ++ x ∷ [])
-all_push P [] x h p = (p, tt)
-all_push P (y ∷ xs) x h p = (h.0, all_push P xs x h.1 p)
-
-pub all_at : {A : Type 0} (P : A → Type 0) (xs ys : List A) (x : A) → AllByRecursion P (xs ++ x ∷ ys) → P x
-all_at P [] ys x h = h.0
-all_at P (y ∷ xs) ys x h = all_at P xs ys x h.1
-
 head_other : (name x : List ℕ) (names : List (List ℕ)) → list_any (bytes_eq name) (x ∷ names) ≡ false → (x ≢ name) × (list_any (bytes_eq name) names ≡ false)
 head_other name x names h = of (bytes_eq name x) refl h
   where
@@ -53,7 +46,7 @@ distinct_refused [] rest name twice h = cc
 distinct_refused (x ∷ front) rest name twice h = of (bytes_eq name x) refl twice (λ t. distinct_refused front rest name t h.1)
   where
     of : (b : Bool) → bytes_eq name x ≡ b → (b || list_any (bytes_eq name) front) ≡ true → (list_any (bytes_eq name) front ≡ true → ⊥) → ⊥
-    of true e t later = all_at (λ y. x ≢ y) front rest name h.0 (sym ((bytes_eq-Decides name x).0 e))
+    of true e t later = all_between (λ y. x ≢ y) front rest name h.0 (sym ((bytes_eq-Decides name x).0 e))
     of false e t later = later t
 
 -- one item more of a list, and all of it round that item

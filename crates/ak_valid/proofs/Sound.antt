@@ -1,6 +1,9 @@
--- A valid script by its places is a sound program: what is looked up by name is looked up by place.
-use Rattle.std.proofs.Common.{◌≡◌, ℕ, zero, suc, ◌+◌, Bool, true, false, ◌||◌, cond, List, [], ◌∷◌, ◌++◌, length, map, take, drop, Option, Some, None, refl, sym, ap, ◌∙◌, subst, arith, append-nil, append_assoc, codes, MatchOption, length-append}
+-- A valid script by its places is a sound program: what is looked up by name is looked up by place, and what the grammar says
+-- of its statements stays.
+use Rattle.std.proofs.Common.{◌≡◌, ℕ, zero, suc, ◌+◌, Bool, true, false, ◌||◌, ◌&&◌, ◌≤◌, cond, List, [], ◌∷◌, ◌++◌, length, map, take, drop, Option, Some, None, refl, sym, ap, ◌∙◌, subst, arith, append-nil, append_assoc, codes, MatchOption, length-append, get_or}
 use Rattle.std.proofs.lemmas.List.{map-append}
+use Rattle.std.proofs.lemmas.List.Quantifiers.{position-Some}
+use Rattle.std.proofs.lemmas.Option.{slice_get-get_or}
 use Rattle.std.proofs.lemmas.Slice.Eq.{bytes_eq-Decides}
 use Rattle.std.specs.List.{AllByRecursion, AllZip, Any, list_any, slice_get, range_with_len}
 use Rattle.std.specs.Str.{bytes_eq}
@@ -17,14 +20,14 @@ use Rattle.ak_script.specs.declared.statement.Atom.TheVariants.{Literal, Local}
 use Rattle.ak_script.specs.declared.statement.Choice.{Choice}
 use Rattle.ak_script.specs.declared.statement.Stmt.{Stmt}
 use Rattle.ak_script.specs.declared.statement.Stmt.TheVariants as by_name
-use Rattle.ak_syntax.specs.Table.{binds}
+use Rattle.ak_script.specs.Statements.{binds, MayHavePrefix, IsWithin, IsFormed, ProcIsFormed}
 use Rattle.ak_syntax.specs.Grammar.{locals}
 use Rattle.ak_program.specs.declared.program.NumParam.{NumParam}
 use Rattle.ak_program.specs.declared.program.NumProc.{NumProc}
 use Rattle.ak_program.specs.declared.statement.NumChoice.{NumChoice}
-use Rattle.ak_program.specs.Programs.{NumUse, NumCallee, num_uses, num_callees, num_binds, ProgramIsSound, ProcIsSound, LinesAreSound, StatementIsSound, AreNext}
+use Rattle.ak_program.specs.Programs.{NumUse, NumCallee, num_uses, num_callees, num_binds, ProgramIsSound, ProcIsSound, LinesAreSound, StatementIsSound, AreNext, IsAsk}
 use Rattle.ak_program.specs.Programs as placed
-use Rattle.ak_valid.specs.Numbered.{at, param_names, proc_names, numbered_atom, numbered_choice, numbered_stmt, numbered_statement, numbered_param, numbered_proc, numbered_prefix, numbered, main_of}
+use Rattle.ak_valid.specs.Numbered.{at, param_names, proc_names, numbered_atom, numbered_choice, numbered_stmt, numbered_statement, numbered_param, numbered_proc, numbered_prefix, numbered, main_of, is_num, is_one_number, is_ask, ask_of}
 use Rattle.ak_valid.specs.Uses.{Use, Callee, local, number, returned, uses, callees}
 use Rattle.ak_valid.specs.Valid.{AreDistinct, Valid, HasMain, ProcIsValid, LinesAreValid, StatementIsValid, IsKnown, IsPassed, IsCallable, Takes, local_named, proc_named, prefix_uses}
 use Rattle.ak_valid.proofs.Mapping.{all_binds, map_twice, names_append}
@@ -53,6 +56,10 @@ get_mapped f (y ∷ xs) (suc k) x h = get_mapped f xs k x h
 all_mapped : {A B : Type 0} (f : A → B) (P : A → Type 0) (Q : B → Type 0) → ((x : A) → P x → Q (f x)) → (xs : List A) → AllByRecursion P xs → AllByRecursion Q (map f xs)
 all_mapped f P Q each [] h = tt
 all_mapped f P Q each (x ∷ xs) h = (each x h.0, all_mapped f P Q each xs h.1)
+
+all_both : {A : Type 0} (P Q : A → Type 0) (xs : List A) → AllByRecursion P xs → AllByRecursion Q xs → AllByRecursion (λ x. P x × Q x) xs
+all_both P Q [] p q = tt
+all_both P Q (x ∷ xs) p q = ((p.0, q.0), all_both P Q xs p.1 q.1)
 
 zip_mapped : {A B C D : Type 0} (f : A → C) (g : B → D) (P : A → B → Type 0) (Q : C → D → Type 0) → ((x : A) (y : B) → P x y → Q (f x) (g y)) → (xs : List A) (ys : List B) → AllZip P xs ys → AllZip Q (map f xs) (map g ys)
 zip_mapped f g P Q each [] [] h = tt
@@ -176,6 +183,42 @@ binds_at : (procs names : List (List ℕ)) (stmt : Stmt) → num_binds (numbered
 binds_at procs names (by_name.Set x a op b) = refl
 binds_at procs names _ = refl
 
+-- ---- what the grammar says
+alone_at : (procs names : List (List ℕ)) (prefix : Option Prefix) (stmt : Stmt) → MayHavePrefix prefix stmt → placed.MayHavePrefix (numbered_prefix names prefix) (numbered_stmt procs names stmt)
+alone_at procs names None stmt h = tt
+alone_at procs names (Some (If a)) stmt h = binds_at procs names stmt ∙ ap (map (numbered_param names)) h
+alone_at procs names (Some (Unless a)) stmt h = binds_at procs names stmt ∙ ap (map (numbered_param names)) h
+
+within_at : (procs names : List (List ℕ)) (stmt : Stmt) → IsWithin stmt → placed.IsWithin (numbered_stmt procs names stmt)
+within_at procs names (by_name.All r deferreds proc args) h = rw (map_size (at names) deferreds) h.0
+within_at procs names (by_name.Any r deferreds) h = rw (map_size (at names) deferreds) h
+within_at procs names (by_name.Choose r choices args) h = rw (map_size (numbered_choice procs names) choices) h.0
+within_at procs names (by_name.Throttle t k stop) h = h
+within_at procs names (by_name.Pipe p b) h = h
+within_at procs names _ h = tt
+
+few_args : (names : List (List ℕ)) (args : List Atom) → length args ≤ 8 → length (map (numbered_atom names) args) ≤ 8
+few_args names args h = rw (map_size (numbered_atom names) args) h
+
+few_chosen : (procs names : List (List ℕ)) (args : List Atom) (choices : List Choice) → length args ≤ 8
+    → AllByRecursion placed.HasFewArgs (map (λ (choice : NumChoice). let r : NumCallee = record { place = choice.proc; front = 1; args = map (numbered_atom names) args } in r) (map (numbered_choice procs names) choices))
+few_chosen procs names args [] h = tt
+few_chosen procs names args (choice ∷ choices) h = (few_args names args h, few_chosen procs names args choices h)
+
+few_at : (procs names : List (List ℕ)) (stmt : Stmt) → IsWithin stmt → AllByRecursion placed.HasFewArgs (num_callees (numbered_stmt procs names stmt))
+few_at procs names (by_name.Upon d proc args) h = (few_args names args h, tt)
+few_at procs names (by_name.Bind r d proc args) h = (few_args names args h, tt)
+few_at procs names (by_name.All r deferreds proc args) h = (few_args names args h.1, tt)
+few_at procs names (by_name.Choose r choices args) h = few_chosen procs names args choices h.1
+few_at procs names (by_name.Sched proc args) h = (few_args names args h, tt)
+few_at procs names (by_name.Low proc args) h = (few_args names args h, tt)
+few_at procs names (by_name.Within m proc args) h = (few_args names args h, tt)
+few_at procs names (by_name.OnError m proc args) h = (few_args names args h, tt)
+few_at procs names (by_name.Try r proc args catch catch_args mode) h = (few_args names args h.0, (few_args names catch_args h.1, tt))
+few_at procs names (by_name.Enqueue r t proc args) h = (few_args names args h, tt)
+few_at procs names (by_name.Read r p proc args eof eof_args) h = (few_args names args h.0, (few_args names eof_args h.1, tt))
+few_at procs names _ h = tt
+
 -- ---- calls
 abbrev params_at : Proc → List NumParam
 params_at proc = map (numbered_param (param_names (locals proc))) proc.params
@@ -223,9 +266,9 @@ bound_next known bound rest h =
     ∙ ap (λ (ns : List (List ℕ)). map (at ns) (param_names bound)) parts ∙ places_between (param_names known) (param_names bound) (param_names rest) (subst AreDistinct parts h)
     ∙ (λ i. range_with_len (map_size (λ (p : Param). p.name) known i) ((map_size (λ (p : Param). p.name) bound ∙ sym (map_size (numbered_param all) bound)) i))
 
-statement_sound : (script : List Proc) (known rest : List Param) (statement : Statement) → AreDistinct (param_names (known ++ (binds statement.stmt ++ rest))) → StatementIsValid script known statement
+statement_sound : (script : List Proc) (known rest : List Param) (statement : Statement) → AreDistinct (param_names (known ++ (binds statement.stmt ++ rest))) → StatementIsValid script known statement → IsFormed statement
     → StatementIsSound (numbered script) (kinds_of known) (numbered_statement (proc_names script) (param_names (known ++ (binds statement.stmt ++ rest))) statement)
-statement_sound script known rest statement distinct h =
+statement_sound script known rest statement distinct h formed =
     let later : List Param = binds statement.stmt ++ rest in
     let procs : List (List ℕ) = proc_names script in
     let names : List (List ℕ) = param_names (known ++ later) in
@@ -238,34 +281,37 @@ statement_sound script known rest statement distinct h =
           (all_mapped (callee_at procs names) (IsCallable script known) (placed.IsCallable (numbered script) (kinds_of known)) (callable_at script known later) (callees statement.stmt) h.calls);
       binds = subst (AreNext (length (kinds_of known))) (sym (binds_at procs names statement.stmt))
           (subst (λ (n : ℕ). AreNext n (map (numbered_param names) (binds statement.stmt))) (sym (map_size (λ (p : Param). p.kind) known)) (bound_next known (binds statement.stmt) rest distinct));
+      alone = alone_at procs names statement.prefix statement.stmt formed.0;
+      within = within_at procs names statement.stmt formed.1;
+      few = few_at procs names statement.stmt formed.1;
     }
 
 kinds_next : (procs names : List (List ℕ)) (known : List Param) (stmt : Stmt) → kinds_of known ++ map (λ (p : NumParam). p.kind) (num_binds (numbered_stmt procs names stmt)) ≡ kinds_of (known ++ binds stmt)
 kinds_next procs names known stmt = ap (λ (ks : List Kind). kinds_of known ++ ks) (ap (map (λ (p : NumParam). p.kind)) (binds_at procs names stmt) ∙ map_twice (λ (p : NumParam). p.kind) (numbered_param names) (binds stmt))
     ∙ sym (map-append (λ (p : Param). p.kind) known (binds stmt))
 
-lines_sound : (script : List Proc) (names : List (List ℕ)) (known : List Param) (body : List Statement) → names ≡ param_names (known ++ all_binds body) → AreDistinct names → LinesAreValid script known body
+lines_sound : (script : List Proc) (names : List (List ℕ)) (known : List Param) (body : List Statement) → names ≡ param_names (known ++ all_binds body) → AreDistinct names → LinesAreValid script known body → AllByRecursion IsFormed body
     → LinesAreSound (numbered script) (kinds_of known) (map (numbered_statement (proc_names script) names) body)
-lines_sound script names known [] is distinct h = tt
-lines_sound script names known (statement ∷ body) is distinct h =
+lines_sound script names known [] is distinct h formed = tt
+lines_sound script names known (statement ∷ body) is distinct h formed =
     let regroup : names ≡ param_names ((known ++ binds statement.stmt) ++ all_binds body) = is ∙ ap param_names (sym (append_assoc known (binds statement.stmt) (all_binds body))) in (
       subst (λ (ns : List (List ℕ)). StatementIsSound (numbered script) (kinds_of known) (numbered_statement (proc_names script) ns statement)) (sym is)
-          (statement_sound script known (all_binds body) statement (subst AreDistinct is distinct) h.0),
+          (statement_sound script known (all_binds body) statement (subst AreDistinct is distinct) h.0 formed.0),
       subst (λ (ks : List Kind). LinesAreSound (numbered script) ks (map (numbered_statement (proc_names script) names) body)) (sym (kinds_next (proc_names script) names known statement.stmt))
-          (lines_sound script names (known ++ binds statement.stmt) body regroup distinct h.1),
+          (lines_sound script names (known ++ binds statement.stmt) body regroup distinct h.1 formed.1),
     )
 
 -- ---- procedures
 params_next : (params rest : List Param) → AreDistinct (param_names (params ++ rest)) → AreNext 0 (map (numbered_param (param_names (params ++ rest))) params)
 params_next params rest h = bound_next [] params rest h
 
-proc_sound : (script : List Proc) (proc : Proc) → ProcIsValid script proc → ProcIsSound (numbered script) (numbered_proc (proc_names script) proc)
+proc_sound : (script : List Proc) (proc : Proc) → ProcIsValid script proc × ProcIsFormed proc → ProcIsSound (numbered script) (numbered_proc (proc_names script) proc)
 proc_sound script proc h =
     let names : List (List ℕ) = param_names (locals proc) in
     record {
-      params = params_next proc.params (all_binds proc.body) h.locals;
+      params = params_next proc.params (all_binds proc.body) h.0.locals;
       lines = subst (λ (ks : List Kind). LinesAreSound (numbered script) ks (map (numbered_statement (proc_names script) names) proc.body)) (sym (map_twice (λ (p : NumParam). p.kind) (numbered_param names) proc.params))
-          (lines_sound script names proc.params proc.body refl h.locals h.lines);
+          (lines_sound script names proc.params proc.body refl h.0.locals h.0.lines h.1);
     }
 
 main_begins : (script : List Proc) → HasMain script → MatchOption (slice_get (numbered script) (main_of script)) ⊥ (λ (proc : NumProc). proc.params ≡ [])
@@ -275,11 +321,36 @@ main_begins script h = of (proc_named script (codes "main")) refl h
     of None found h = absurd h
     of (Some main) found h = rw (get_mapped (numbered_proc (proc_names script)) script (main_of script) main (proc_place script (codes "main") main found)) (rw h refl)
 
+-- ---- the procedure that serves requests
+is_number : (kind : Kind) → is_num kind ≡ true → kind ≡ of_kind.Num
+is_number of_kind.Num h = refl
+is_number _ h = cc
+
+one_number : (names : List (List ℕ)) (params : List Param) → is_one_number params ≡ true → map (λ (p : NumParam). p.kind) (map (numbered_param names) params) ≡ of_kind.Num ∷ []
+one_number names [] h = cc
+one_number names (param ∷ []) h = ap (λ (kind : Kind). kind ∷ []) (is_number param.kind h)
+one_number names (param ∷ other ∷ params) h = cc
+
+second_true : (a b : Bool) → (a && b) ≡ true → b ≡ true
+second_true true b h = h
+second_true false b h = cc
+
+ask_serves : (script : List Proc) (place : Option ℕ) → ask_of script ≡ place → IsAsk (numbered script) place
+ask_serves script None h = tt
+ask_serves script (Some k) h =
+    let other : Proc = record { name = []; line = 0; params = []; body = [] } in
+    let found = position-Some is_ask script k other h in
+    let ask : Proc = get_or script k other in
+    rw (get_mapped (numbered_proc (proc_names script)) script k ask (slice_get-get_or script k other found.0))
+    (one_number (param_names (locals ask)) ask.params (second_true (bytes_eq (codes "ask") ask.name) (is_one_number ask.params) found.1))
+
 -- a valid script by its places
-pub valid_sound : (script : List Proc) → Valid script → ProgramIsSound (numbered script) (main_of script)
-valid_sound script h = record {
+pub valid_sound : (script : List Proc) → Valid script → AllByRecursion ProcIsFormed script → ProgramIsSound (numbered script) (main_of script) (ask_of script)
+valid_sound script h formed = record {
   begins = main_begins script h.main;
+  serves = ask_serves script (ask_of script) refl;
   places = map_twice (λ (p : NumProc). p.name) (numbered_proc (proc_names script)) script ∙ sym (map_twice (at (proc_names script)) (λ (p : Proc). p.name) script)
       ∙ distinct_places (proc_names script) h.procs ∙ ap (range_with_len 0) (map_size (λ (p : Proc). p.name) script ∙ sym (map_size (numbered_proc (proc_names script)) script));
-  each = all_mapped (numbered_proc (proc_names script)) (ProcIsValid script) (ProcIsSound (numbered script)) (proc_sound script) script h.each;
+  each = all_mapped (numbered_proc (proc_names script)) (λ proc. ProcIsValid script proc × ProcIsFormed proc) (ProcIsSound (numbered script)) (proc_sound script) script
+      (all_both (ProcIsValid script) ProcIsFormed script h.each formed);
 }

@@ -12,7 +12,7 @@ use Rattle.indexmap.proofs.MapLemmas.{insert_entry-absent, absent_from_lookup}
 use Rattle.ak_script.specs.declared.script.Kind.{Kind}
 use Rattle.ak_script.specs.declared.script.Param.{Param}
 use Rattle.ak_script.specs.declared.script.Proc.{Proc}
-use Rattle.ak_syntax.specs.Table.{bound}
+use Rattle.ak_script.specs.Statements.{bound}
 use Rattle.ak_valid.specs.Numbered.{at, param_names, proc_names}
 use Rattle.ak_valid.specs.Valid.{local_named, proc_named}
 use Rattle.ak_valid.proofs.Mapping.{map_twice}

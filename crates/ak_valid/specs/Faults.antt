@@ -11,7 +11,7 @@ use Rattle.ak_script.specs.declared.script.Statement.{Statement}
 use Rattle.ak_script.specs.declared.script.Proc.{Proc}
 use Rattle.ak_script.specs.declared.statement.Atom.{Atom}
 use Rattle.ak_script.specs.declared.statement.Atom.TheVariants.{Literal, Local}
-use Rattle.ak_syntax.specs.Table.{binds}
+use Rattle.ak_script.specs.Statements.{binds}
 use Rattle.ak_valid.specs.declared.refusal.FaultKind.{FaultKind}
 use Rattle.ak_valid.specs.declared.refusal.FaultKind.TheVariants.{NoMain, TwiceNamed, UnknownName, WrongKind, WrongCount}
 use Rattle.ak_valid.specs.Numbered.{param_names}

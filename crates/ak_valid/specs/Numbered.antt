@@ -1,9 +1,11 @@
 -- A script with its procedures and locals by their places.
-use Rattle.std.specs.Prelude.{ℕ, Option, Some, None, List, map, codes}
-use Rattle.std.specs.List.{position_or_len}
+use Rattle.std.specs.Prelude.{ℕ, Bool, true, false, ◌&&◌, Option, Some, None, List, [], ◌∷◌, map, codes}
+use Rattle.std.specs.List.{position, position_or_len}
 use Rattle.std.specs.Str.{bytes_eq}
 use Rattle.ak_labor.specs.declared.work.WorkKind.{WorkKind}
 use Rattle.ak_labor.specs.declared.work.WorkKind.TheVariants as work
+use Rattle.ak_script.specs.declared.script.Kind.{Kind}
+use Rattle.ak_script.specs.declared.script.Kind.TheVariants as of_kind
 use Rattle.ak_script.specs.declared.script.Param.{Param}
 use Rattle.ak_script.specs.declared.script.Prefix.{Prefix}
 use Rattle.ak_script.specs.declared.script.Prefix.TheVariants.{If, Unless}
@@ -126,3 +128,21 @@ numbered script = map (numbered_proc (proc_names script)) script
 -- the place of `main`
 abbrev pub main_of : List Proc → ℕ
 main_of script = at (proc_names script) (codes "main")
+
+-- whether the kind is that of numbers
+abbrev pub is_num : Kind → Bool
+is_num of_kind.Num = true
+is_num kind = false
+
+-- whether there is one parameter, which is a number
+abbrev pub is_one_number : List Param → Bool
+is_one_number (param ∷ []) = is_num param.kind
+is_one_number params = false
+
+-- whether the procedure serves requests from outside: it is named `ask`, and has one parameter, which is a number
+abbrev pub is_ask : Proc → Bool
+is_ask proc = bytes_eq (codes "ask") proc.name && is_one_number proc.params
+
+-- the place of the first that does
+abbrev pub ask_of : List Proc → Option ℕ
+ask_of script = position is_ask script

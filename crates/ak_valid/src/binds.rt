@@ -1,7 +1,7 @@
 //! The locals that a procedure binds: its parameters, and the names of its statements.
 
 ghost use Rattle.std.specs.Prelude.{◌≡◌, [], ◌∷◌, ◌++◌, None, IfOk};
-ghost use Rattle.ak_syntax.specs.Table.{binds, bound};
+ghost use Rattle.ak_script.specs.Statements.{binds, bound};
 ghost use Rattle.ak_valid.specs.Numbered.{param_names};
 ghost use Rattle.ak_valid.specs.Faults.{twice_named, least};
 

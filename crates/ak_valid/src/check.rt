@@ -3,7 +3,7 @@
 ghost use Rattle.std.specs.Prelude.{◌≡◌, [], ◌∷◌, ◌++◌, None, Some, IfOk, OnOk, IfErr};
 ghost use Rattle.std.specs.List.{flat_map};
 ghost use Rattle.std.specs.Option.{option_map_or};
-ghost use Rattle.ak_syntax.specs.Table.{binds};
+ghost use Rattle.ak_script.specs.Statements.{binds};
 ghost use Rattle.ak_syntax.specs.Grammar.{locals as locals_of};
 ghost use Rattle.ak_valid.specs.Faults.{twice_named, main_faults, head_faults, statement_faults, body_lines, proc_lines, first_fault, kind_number, least};
 ghost use Rattle.ak_valid.specs.Refusals.{Refuses};

@@ -11,6 +11,7 @@ mod number;
 mod places;
 mod procs;
 pub mod refusal;
+mod requests;
 mod statements;
 mod uses;
 pub mod validate;

@@ -3,7 +3,7 @@
 ghost use Rattle.std.specs.Prelude.{◌≡◌, [], ◌∷◌, ◌++◌, not, IfOk, option_map, if◌then◌else◌};
 ghost use Rattle.std.specs.List.{list_any};
 ghost use Rattle.std.specs.Str.{bytes_eq};
-ghost use Rattle.ak_syntax.specs.Table.{bound};
+ghost use Rattle.ak_script.specs.Statements.{bound};
 ghost use Rattle.ak_valid.specs.Numbered.{at, param_names};
 ghost use Rattle.ak_valid.specs.Valid.{local_named};
 
@@ -22,7 +22,7 @@ pub struct Locals<'a> {
 impl<'a> Model for Locals<'a> {
     ghost use Rattle.std.specs.Prelude.{List, map};
     ghost use Rattle.ak_script.specs.declared.script.Param.{Param};
-    ghost use Rattle.ak_syntax.specs.Table.{bound};
+    ghost use Rattle.ak_script.specs.Statements.{bound};
 
     ghost Value = { List Param };
 

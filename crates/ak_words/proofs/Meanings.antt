@@ -1,13 +1,13 @@
 -- Words mean one command at most, and its settings are in their ranges.
 use Rattle.std.proofs.Common.{◌≡◌, ℕ, ◌≤◌, List, [], ◌∷◌, refl, sym, ap, ◌∙◌, subst, arith, drop}
 use Rattle.std.specs.Prelude.{codes}
-use Rattle.ak_machine.specs.declared.config.Config.{Config}
+use Rattle.ak_labor.specs.declared.config.Config.{Config}
 use Rattle.ak_words.specs.declared.command.Command.{Command}
 use Rattle.ak_words.specs.declared.command.Command.TheVariants.{Run, Check}
 use Rattle.ak_words.specs.declared.settings.Setting.{Setting}
 use Rattle.ak_words.specs.declared.settings.Setting.TheVariants.{Threads, Limit, Jobs}
 use Rattle.ak_words.specs.declared.settings.Given.{Given}
-use Rattle.ak_words.specs.Words.{greatest, with_setting, none_given, config_of, or_default, IsValue, Continues, Means}
+use Rattle.ak_words.specs.Words.{with_setting, none_given, or_default, IsValue, Continues, Means}
 use Rattle.ak_words.proofs.Places.{goes_behind}
 
 one_config : (given : Given) (words : List (List ℕ)) (c d : Config) → Continues given words c → Continues given words d → c ≡ d
@@ -56,3 +56,12 @@ threads_behind given (name ∷ value ∷ words) c l h = threads_behind (with_set
 
 pub has_threads : (words : List (List ℕ)) (config : Config) → Means words (Run config) → (1 ≤ config.threads) × (config.threads ≤ 32)
 has_threads words config h = threads_behind none_given h.0 config (omega arith, omega arith) h.2
+
+-- nobody asks from outside
+askers_behind : (given : Given) (words : List (List ℕ)) (c : Config) → Continues given words c → c.askers ≡ 0
+askers_behind given [] c h = ap (λ (x : Config). x.askers) h
+askers_behind given (name ∷ []) c h = absurd h
+askers_behind given (name ∷ value ∷ words) c h = askers_behind (with_setting h.0 h.1 given) words c h.3
+
+pub has_no_askers : (words : List (List ℕ)) (config : Config) → Means words (Run config) → config.askers ≡ 0
+has_no_askers words config h = askers_behind none_given h.0 config h.2

@@ -1,7 +1,7 @@
 -- The place at which words stop being a command is one.
 use Rattle.std.proofs.Common.{◌≡◌, ℕ, zero, suc, ◌+◌, ◌-◌, ◌<◌, ◌≤◌, List, [], ◌∷◌, ◌++◌, length, take, drop, get_or, refl, sym, ap, ◌∙◌, subst, arith}
 use Rattle.std.specs.Prelude.{codes, None}
-use Rattle.ak_machine.specs.declared.config.Config.{Config}
+use Rattle.ak_labor.specs.declared.config.Config.{Config}
 use Rattle.ak_words.specs.declared.command.Command.{Command}
 use Rattle.ak_words.specs.declared.command.Command.TheVariants.{Run, Check}
 use Rattle.ak_words.specs.declared.settings.Setting.{Setting}

@@ -1,7 +1,7 @@
 -- Command words, and the place at which words stop being a command. Own.
 use Rattle.std.specs.Prelude.{ℕ, ◌+◌, ◌<◌, ◌≤◌, List, [], ◌∷◌, ◌++◌, ◌≡◌, length, take, codes, Option, Some, None}
 use Rattle.ak_text.specs.Numbers.{AreDigits, digits_value}
-use Rattle.ak_machine.specs.declared.config.Config.{Config}
+use Rattle.ak_labor.specs.declared.config.Config.{Config}
 use Rattle.ak_words.specs.declared.command.Command.{Command}
 use Rattle.ak_words.specs.declared.command.Command.TheVariants.{Run, Check}
 use Rattle.ak_words.specs.declared.settings.Setting.{Setting}
@@ -48,10 +48,15 @@ abbrev pub or_default : Option ℕ → ℕ → ℕ
 or_default None n = n
 or_default (Some m) n = m
 
--- what isn't given is four threads, five hundred jobs of a priority in a cycle, and a hundred thousand jobs in all
+-- what isn't given is four threads, five hundred jobs of a priority in a cycle, a hundred thousand jobs in all;
+-- there are no askers
 abbrev pub config_of : Given → Config
-config_of given =
-    record { threads = or_default given.threads 4; limit = or_default given.limit 500; jobs = or_default given.jobs 100000 }
+config_of given = record {
+  threads = or_default given.threads 4;
+  limit = or_default given.limit 500;
+  jobs = or_default given.jobs 100000;
+  askers = 0;
+}
 
 -- the word is a number of the setting's range: decimal digits alone
 abbrev pub IsValue : Setting → List ℕ → ℕ → Type 0

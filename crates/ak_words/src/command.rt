@@ -5,7 +5,7 @@ ghost use Rattle.ak_words.specs.Words.{Means, IsUsageFault};
 
 use crate::settings::{Given, settings};
 use ak_base::list::Word;
-use ak_machine::config::Config;
+use ak_labor::config::Config;
 
 /// A command.
 #[derive(Clone, Copy, PartialEq, Eq, Debug)]

@@ -1,12 +1,12 @@
 //! The settings of a run, by their words.
 
 ghost use Rattle.std.specs.Prelude.{◌≡◌, ◌≤◌, ◌+◌, ◌*◌, ℕ, ◌↔◌, IsTrue, None, MatchOption, IfOk, IfErr};
-ghost use Rattle.ak_machine.specs.declared.config.Config.{Config};
+ghost use Rattle.ak_labor.specs.declared.config.Config.{Config};
 ghost use Rattle.ak_text.specs.Numbers.{has_minus};
 ghost use Rattle.ak_words.specs.Words.{name_of, greatest, given_at, with_setting, none_given, config_of, IsValue, frees, Continues, IsSettingsFault};
 
 use ak_base::list::Word;
-use ak_machine::config::Config;
+use ak_labor::config::Config;
 use ak_text::read::read_u64;
 
 /// A setting of a run.
@@ -122,6 +122,7 @@ impl Given {
             threads: or_default(self.threads, 4),
             limit: or_default(self.limit, 500),
             jobs: or_default(self.jobs, 100_000),
+            askers: 0,
         }
     }
 }

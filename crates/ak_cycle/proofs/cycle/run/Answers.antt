@@ -2,7 +2,7 @@ use Rattle.std.proofs.Common.{◌≡◌, false, rules, subst}
 use Rattle.ak_labor.specs.Calls.{IsFault}
 use Rattle.ak_labor.proofs.Faults.{IsAsked-fault}
 use Rattle.ak_machine.specs.Run.{run_of}
-use Rattle.ak_machine.specs.declared.config.Config.{Config}
+use Rattle.ak_labor.specs.declared.config.Config.{Config}
 use Rattle.ak_program.specs.Programs.{NumProgram}
 use Rattle.ak_laws.specs.Laws.{ObeysLaws}
 use Rattle.ak_cycle.specs.Runs.{WantsLast, WantsNext, IsNoMemory}
@@ -14,8 +14,10 @@ pub returns-in_err-on-clause-fault : goal.returns-in_err-on-clause-fault
 returns-in_err-on-clause-fault g c fault =
     let failed : IsFault c.turn.result = search rules
     in let wants = c.turn.ensures.fault failed
-    in subst (λ (p : NumProgram). WantsLast (run_of p.procs p.main c.args.config (g.P.Port.replies c.turn.new.port)) (g.P.Port.asked c.turn.new.port) (g.P.Port.replies c.turn.new.port) (g.P.Port.waits c.turn.new.port)) c.loop-on.invariant.at.program_is
-    (subst (λ (k : Config). WantsLast (run_of c.loop-on.world.program.procs c.loop-on.world.program.main k (g.P.Port.replies c.turn.new.port)) (g.P.Port.asked c.turn.new.port) (g.P.Port.replies c.turn.new.port) (g.P.Port.waits c.turn.new.port)) c.loop-on.invariant.at.config_is wants)
+    in subst (λ (p : NumProgram). WantsLast (run_of p c.args.config (g.P.Port.replies c.turn.new.port)) (g.P.Port.asked c.turn.new.port)
+    (g.P.Port.replies c.turn.new.port) (g.P.Port.waits c.turn.new.port)) c.loop-on.invariant.at.program_is
+    (subst (λ (k : Config). WantsLast (run_of c.loop-on.world.program k (g.P.Port.replies c.turn.new.port)) (g.P.Port.asked c.turn.new.port)
+    (g.P.Port.replies c.turn.new.port) (g.P.Port.waits c.turn.new.port)) c.loop-on.invariant.at.config_is wants)
 
 pub returns-in_err-close-clause-fault : goal.returns-in_err-close-clause-fault
 returns-in_err-close-clause-fault g c fault =
@@ -23,15 +25,18 @@ returns-in_err-close-clause-fault g c fault =
     in let call = IsAsked-fault _ _ _ _ _ _ _ c.close.ensures.asked failed
     in let off : c.loop-on.on ≡ false = c.loop-on-test.false
     in wants_close c.args.program c.args.config c.loop-on.world _ _ _ _ _ _
-    (subst (λ b. IsAt b c.args.program c.args.config c.loop-on.world (g.P.Port.asked c.loop-on.port) (g.P.Port.replies c.loop-on.port) (g.P.Port.waits c.loop-on.port)) off c.loop-on.invariant.at)
+    (subst (λ b. IsAt b c.args.program c.args.config c.loop-on.world (g.P.Port.asked c.loop-on.port) (g.P.Port.replies c.loop-on.port)
+    (g.P.Port.waits c.loop-on.port)) off c.loop-on.invariant.at)
     call.0 call.1 c.close.ensures.waits
 
 pub returns-in_err-on-clause-memory : goal.returns-in_err-on-clause-memory
 returns-in_err-on-clause-memory g c short =
     let failed : IsNoMemory c.turn.result = search rules
     in let wants = c.turn.ensures.memory failed
-    in subst (λ (p : NumProgram). WantsNext (run_of p.procs p.main c.args.config (g.P.Port.replies c.turn.new.port)) (g.P.Port.asked c.turn.new.port) (g.P.Port.replies c.turn.new.port) (g.P.Port.waits c.turn.new.port)) c.loop-on.invariant.at.program_is
-    (subst (λ (k : Config). WantsNext (run_of c.loop-on.world.program.procs c.loop-on.world.program.main k (g.P.Port.replies c.turn.new.port)) (g.P.Port.asked c.turn.new.port) (g.P.Port.replies c.turn.new.port) (g.P.Port.waits c.turn.new.port)) c.loop-on.invariant.at.config_is wants)
+    in subst (λ (p : NumProgram). WantsNext (run_of p c.args.config (g.P.Port.replies c.turn.new.port)) (g.P.Port.asked c.turn.new.port)
+    (g.P.Port.replies c.turn.new.port) (g.P.Port.waits c.turn.new.port)) c.loop-on.invariant.at.program_is
+    (subst (λ (k : Config). WantsNext (run_of c.loop-on.world.program k (g.P.Port.replies c.turn.new.port)) (g.P.Port.asked c.turn.new.port)
+    (g.P.Port.replies c.turn.new.port) (g.P.Port.waits c.turn.new.port)) c.loop-on.invariant.at.config_is wants)
 
 pub returns-in_err-close-clause-memory : goal.returns-in_err-close-clause-memory
 returns-in_err-close-clause-memory g c short =
@@ -41,7 +46,8 @@ returns-in_err-close-clause-memory g c short =
 
 pub returns-clause-idle : goal.returns-clause-idle
 returns-clause-idle g c = λ ends.
-    none_out_closed (g.P.Port.asked c.loop-on.port) (g.P.Port.asked c.close.new.self) (g.P.Port.replies c.close.new.self) c.loop-on.invariant.at.no_work c.in_ok-close.ensures.asked.0
+    none_out_closed (g.P.Port.asked c.loop-on.port) (g.P.Port.asked c.close.new.self)
+    (g.P.Port.replies c.close.new.self) c.loop-on.invariant.at.no_work c.in_ok-close.ensures.asked.0
 
 pub returns-clause-closed : goal.returns-clause-closed
 returns-clause-closed g c = (g.P.Port.asked c.loop-on.port, c.in_ok-close.ensures.asked.0)
@@ -51,7 +57,9 @@ returns-clause-laws g c =
     let off : c.loop-on.on ≡ false = c.loop-on-test.false
     in let ended =
     closed c.args.program c.args.config c.loop-on.world c.trace.result _ _ _ _ _ _
-    (subst (λ b. IsAt b c.args.program c.args.config c.loop-on.world (g.P.Port.asked c.loop-on.port) (g.P.Port.replies c.loop-on.port) (g.P.Port.waits c.loop-on.port)) off c.loop-on.invariant.at)
+    (subst (λ b. IsAt b c.args.program c.args.config c.loop-on.world (g.P.Port.asked c.loop-on.port) (g.P.Port.replies c.loop-on.port)
+    (g.P.Port.waits c.loop-on.port)) off c.loop-on.invariant.at)
     c.trace.ensures c.in_ok-close.ensures.asked.0 c.in_ok-close.ensures.asked.1 c.close.ensures.waits
     in subst (ObeysLaws c.args.config.limit) ended.trace_is
-    (c.obeys_laws.ensures c.args.program.procs c.args.program.main c.main-main.ensures.sound c.requires.built c.args.config (g.P.Port.replies c.close.new.self) ended.ended)
+    (c.obeys_laws.ensures c.args.program c.main-main.ensures.sound c.args.config
+    (g.P.Port.replies c.close.new.self) ended.ended)

@@ -8,6 +8,7 @@ invariant-loop-on g l =
     record {
       at : IsAt l.on l.fn.program l.fn.config l.world (g.P.Port.asked l.port) (g.P.Port.replies l.port) (g.P.Port.waits l.port);
       threads : g.P.Port.threads l.port ≡ g.P.Port.threads l.initial.port;
+      askers : g.P.Port.askers l.port ≡ g.P.Port.askers l.initial.port;
     }
 
 abbrev pub decreases-loop-on : goal.decreases-loop-on

@@ -13,5 +13,7 @@ invariant-loop-k l =
     record {
       way : IsUnderWay l.program.procs l.parts.plain (named l.parts l.vals) l.ctx (ret_mapped (name_in l.parts.names) l.ret) (drop l.k l.lines);
       returns : LinesReturn l.ctx (ret_mapped (name_in l.parts.names) l.ret) (drop l.k l.lines) l.parts.plain (named l.parts l.vals);
-      runs : run_lines l.ctx (ret_mapped (name_in l.initial.parts.names) l.ret) l.lines l.initial.parts.plain (named l.initial.parts l.initial.vals) ≡ run_lines l.ctx (ret_mapped (name_in l.parts.names) l.ret) (drop l.k l.lines) l.parts.plain (named l.parts l.vals);
+      runs : run_lines l.ctx (ret_mapped (name_in l.initial.parts.names) l.ret) l.lines l.initial.parts.plain
+          (named l.initial.parts l.initial.vals) ≡ run_lines l.ctx (ret_mapped (name_in l.parts.names) l.ret) (drop l.k l.lines) l.parts.plain
+          (named l.parts l.vals);
     }

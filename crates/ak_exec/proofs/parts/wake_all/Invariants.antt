@@ -8,7 +8,8 @@ abbrev pub invariant-loop-woken : goal.invariant-loop-woken
 invariant-loop-woken l =
     record {
       cells : record l.cells.named { woken = [] } ≡ record l.initial.cells.named { woken = [] };
-      jobs : (s : State) → fold enqueued_for (with_jobs l.queues.queues l.trace s) l.cells.named.woken ≡ fold enqueued_for (with_jobs l.initial.queues.queues l.initial.trace s) l.initial.cells.named.woken;
+      jobs : (s : State) → fold enqueued_for (with_jobs l.queues.queues l.trace s) l.cells.named.woken ≡ fold enqueued_for
+          (with_jobs l.initial.queues.queues l.initial.trace s) l.initial.cells.named.woken;
     }
 
 abbrev pub decreases-loop-woken : goal.decreases-loop-woken

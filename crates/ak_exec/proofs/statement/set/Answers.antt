@@ -8,6 +8,7 @@ use Rattle.ak_exec.proofs.statement.set.Goals as goal
 
 pub returns-in_ok-push-in-Num-clause-takes : goal.returns-in_ok-push-in-Num-clause-takes
 returns-in_ok-push-in-Num-clause-takes c =
-    let e : computed c.args.op (number_in (named c.args.parts.now c.args.vals.now) c.args.a) (number_in (named c.args.parts.now c.args.vals.now) c.args.b) ≡ Gives c.in-Num.num = search rules
+    let e : computed c.args.op (number_in (named c.args.parts.now c.args.vals.now) c.args.a)
+    (number_in (named c.args.parts.now c.args.vals.now) c.args.b) ≡ Gives c.in-Num.num = search rules
     in let p : c.push.new.self ≡ c.args.vals.now ++ Num c.in-Num.num ∷ [] = search rules
     in rw (e, p, map-append) refl

@@ -1,11 +1,11 @@
 use Rattle.std.proofs.Common.{◌≡◌, length}
-use Rattle.ak_history.specs.Taking.{things_of}
-use Rattle.ak_history.proofs.Things.{with_front}
+use Rattle.ak_history.specs.Taking.{brought_of}
+use Rattle.ak_history.proofs.Things.{with_works}
 use Rattle.ak_history.proofs.form.drain.Given as goal
 
--- the numbers so far and those of the words that are left are all numbers
+-- the works so far and what is brought by the words that are left are all that is brought
 abbrev pub invariant-loop-word : goal.invariant-loop-word
-invariant-loop-word l = with_front l.ids (things_of l.row) ≡ things_of l.fn.row
+invariant-loop-word l = with_works l.ids (brought_of l.row) ≡ brought_of l.fn.row
 
 abbrev pub decreases-loop-word : goal.decreases-loop-word
 decreases-loop-word l = length l.row

@@ -1,9 +1,10 @@
-use Rattle.std.proofs.Common.{◌≡◌, Err, refl, sym, ap, subst, ℕ, List, ◌∙◌, arith}
+use Rattle.std.proofs.Common.{◌≡◌, ◌≤◌, Err, refl, sym, ap, subst, ℕ, List, length, ◌∙◌, arith}
 use Rattle.ak_text.specs.Lines.{TextLine, text_lines}
 use Rattle.ak_syntax.specs.declared.refusal.ParseRefused.{ParseRefused}
 use Rattle.ak_syntax.specs.declared.refusal.GrammarKind.TheVariants.{BadLine}
 use Rattle.ak_syntax.specs.Lines.{scanned, no_lines, refused_of, Tells}
 use Rattle.ak_syntax.proofs.Scanned.{AreNumbered, numbered_first, numbered_next, refused_tells, next_scanned, closed_tells, open_tells}
+use Rattle.ak_syntax.proofs.Parsed.{found_formed}
 use Rattle.ak_syntax.proofs.parse.parse_lines.Goals as goal
 
 pub loop-line-init : goal.loop-line-init
@@ -31,6 +32,12 @@ overflow_add-last c = let few = c.loop-line.invariant.numbered.2 in omega arith
 
 pub returns-then-is_open : goal.returns-then-is_open
 returns-then-is_open c = rw (c.at.ensures) (BadLine, refl, open_tells c.loop-line.reader c.loop-line.last c.loop-line.line-iterator _ c.loop-line.invariant.same c.in-None.ensures.steps.0 (sym c.if-is_open.ensures))
+
+pub into_script-requires : goal.into_script-requires
+into_script-requires c =
+    let small : length c.args.bytes.now ≤ 1048576 = omega arith in
+    found_formed c.args.bytes.now c.loop-line.reader.procs small
+    (closed_tells c.loop-line.reader c.loop-line.last c.loop-line.line-iterator (scanned no_lines 0 (text_lines c.args.bytes.now)) c.loop-line.invariant.same c.in-None.ensures.steps.0 (sym c.if-is_open.ensures))
 
 pub returns : goal.returns
 returns c = rw (c.into_script.ensures) (closed_tells c.loop-line.reader c.loop-line.last c.loop-line.line-iterator _ c.loop-line.invariant.same c.in-None.ensures.steps.0 (sym c.if-is_open.ensures))

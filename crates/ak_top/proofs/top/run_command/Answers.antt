@@ -5,7 +5,7 @@ use Rattle.ak_top.proofs.top.run_command.Goals as goal
 pub returns-in-Ok-clause-reports : goal.returns-in-Ok-clause-reports
 returns-in-Ok-clause-reports g c =
     run_reports c.args.config (g.S.Source.left c.args.source.now) c.write_run.result c.in-Ok.ran.trace c.in-Ok.ran.history c.write_run.ensures.trace c.write_run.ensures.history
-    (rw c.in-Ok.is at c.run_source-answer.ensures.finished) c.write_run.ensures.status (rw c.in-Ok.is at c.run_source-answer.ensures.ran) (rw c.in-Ok.is at c.run_source-answer.ensures.refuses)
+    c.write_run.ensures.status (rw c.in-Ok.is at c.run_source-answer.ensures.ran) (rw c.in-Ok.is at c.run_source-answer.ensures.refuses)
 
 pub returns-in-Ok-clause-hands : goal.returns-in-Ok-clause-hands
 returns-in-Ok-clause-hands g c =

@@ -1,6 +1,6 @@
 use Rattle.std.proofs.Common.{ap, sym, subst, refl, arith, ◌∙◌}
 use Rattle.ak_words.specs.declared.command.Command.TheVariants.{Run, Check}
-use Rattle.ak_words.proofs.Meanings.{one_command, has_limit, has_threads}
+use Rattle.ak_words.proofs.Meanings.{one_command, has_limit, has_threads, has_no_askers}
 use Rattle.ak_top.specs.declared.status.Report.{Report}
 use Rattle.ak_top.specs.Reports.{Reports}
 use Rattle.ak_top.proofs.Hands.{after_command}
@@ -12,6 +12,9 @@ run_command-requires-clause-limit g c κs within = has_limit c.args.words.now c.
 
 pub run_command-requires-clause-threads : goal.run_command-requires-clause-threads
 run_command-requires-clause-threads g c κs within = has_threads c.args.words.now c.in-Ok-Run.config (rw c.in-Ok-Run.field-0-is at c.in-Ok-Run.ensures.command)
+
+pub run_command-requires-clause-askers : goal.run_command-requires-clause-askers
+run_command-requires-clause-askers g c κs within = has_no_askers c.args.words.now c.in-Ok-Run.config (rw c.in-Ok-Run.field-0-is at c.in-Ok-Run.ensures.command)
 
 pub run_command-requires-clause-hands : goal.run_command-requires-clause-hands
 run_command-requires-clause-hands g c κs within =

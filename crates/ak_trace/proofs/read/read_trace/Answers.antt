@@ -1,6 +1,5 @@
 use Rattle.std.proofs.Common.{◌≡◌, true, List, sym, subst, ◌∙◌, rules}
-use Rattle.ak_text.specs.Lines.{text_lines}
-use Rattle.ak_row.specs.Places.{counts}
+use Rattle.ak_text.specs.Lines.{text_lines, counts}
 use Rattle.ak_row.proofs.Fitting.{AreRead, read_all, read_more}
 use Rattle.ak_trace.specs.declared.entry.Entry.{Entry}
 use Rattle.ak_trace.specs.Reading.{IsEntry, TraceReads, IsRight}

@@ -1,5 +1,5 @@
 use Rattle.std.proofs.Common.{rules, ◌≡◌, [], refl}
-use Rattle.ak_syntax.specs.Table.{binds}
+use Rattle.ak_script.specs.Statements.{binds}
 use Rattle.ak_valid.proofs.Binding.{nothing_more}
 use Rattle.ak_valid.proofs.binds.statement.Goals as goal
 

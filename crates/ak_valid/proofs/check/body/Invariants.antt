@@ -1,7 +1,7 @@
 use Rattle.std.proofs.Common.{◌++◌}
 use Rattle.std.specs.List.{flat_map}
 use Rattle.ak_script.specs.declared.script.Statement.{Statement}
-use Rattle.ak_syntax.specs.Table.{binds}
+use Rattle.ak_script.specs.Statements.{binds}
 use Rattle.ak_valid.specs.Faults.{first_fault, body_lines}
 use Rattle.ak_valid.proofs.Lines.{Walked}
 use Rattle.ak_valid.proofs.check.body.Given as goal

@@ -2,7 +2,7 @@ use Rattle.std.proofs.Common.{◌≡◌, None, List, sym, ◌∙◌}
 use Rattle.std.proofs.lemmas.Result.{err_from_is_err_and}
 use Rattle.std.specs.List.{flat_map}
 use Rattle.ak_script.specs.declared.script.Param.{Param}
-use Rattle.ak_syntax.specs.Table.{binds}
+use Rattle.ak_script.specs.Statements.{binds}
 use Rattle.ak_valid.specs.Numbered.{param_names}
 use Rattle.ak_valid.specs.Uses.{uses, callees}
 use Rattle.ak_valid.specs.Valid.{prefix_uses}

@@ -10,7 +10,11 @@ invariant_of-result c =
     in record {
       built = search rules;
       limit = search rules;
+      askers = search rules;
       fits = search rules;
       picked = tt;
-      held = subst (HeldBy c.args.program.procs []) (sym e) (first_held c.args.program.procs c.args.program.main c.main.ensures.sound (record { mon = 0; low = false }) c.args.config.limit);
+      held =
+          subst (HeldBy c.args.program.procs []) (sym e)
+          (first_held c.args.program.procs c.args.program.main c.args.program.ask c.main.ensures.sound
+          (record { mon = 0; low = false }) c.args.config.limit c.args.config.askers);
     }

@@ -11,7 +11,7 @@ invariant_of-self c =
     let same = c.copied.ensures ∙ c.as_ref.ensures.value in
     pool_kept p _ (event.HelperNew c.new-no.result c.copied.result) c.self.invariant
     (is_open p c.self.invariant (rw (← c.self.view_is) at c.requires.open), c.new-no.ensures ∙ c.helpers.ensures, same ∙ c.answer-answer.ensures)
-    refl refl c.push_reserved.ensures.items (c.note_helper.ensures.desk ∙ ap (λ o. answered o p.desk) (sym same))
+    tt refl refl refl c.push_reserved.ensures.items (c.note_helper.ensures.desk ∙ ap (λ o. answered o p.desk) (sym same)) refl
     (λ b h le. omega (arith, h, spare, c.note_helper.ensures.due))
 
 pub returns-clause-answer : goal.returns-clause-answer

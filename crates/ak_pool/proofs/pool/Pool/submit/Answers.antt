@@ -16,5 +16,5 @@ invariant_of-self-2 c =
     let e = event.Submit c.new-id.result c.args.work c.args.helper in
     pool_kept p _ e c.self.invariant
     (is_open p c.self.invariant (rw (← c.self.view_is) at c.requires.open), c.new-id.ensures ∙ c.submits.ensures, served)
-    refl refl (c.push_reserved.ensures.items ∙ ap (λ h. h ++ e ∷ []) c.in_ok-reserve.ensures.items) c.in_ok-submit.ensures.ok
+    tt refl refl refl (c.push_reserved.ensures.items ∙ ap (λ h. h ++ e ∷ []) c.in_ok-reserve.ensures.items) c.in_ok-submit.ensures.ok refl
     (λ b h le. omega (arith, h, le, c.in_ok-submit.ensures.due, c.in_ok-reserve.ensures.ok, c.in_ok-reserve.ensures.len))

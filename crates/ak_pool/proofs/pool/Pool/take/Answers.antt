@@ -2,8 +2,7 @@ use Rattle.std.proofs.Common.{◌≡◌, ◌<◌, cond, Some, None, ap, sym, ◌
 use Rattle.std.specs.Prelude.{is_some}
 use Rattle.ak_history.specs.declared.event.Event.TheVariants as event
 use Rattle.ak_pool.specs.Desks.{next_of, begun_by}
-use Rattle.ak_pool.proofs.Legality.{fits_legal}
-use Rattle.ak_pool.proofs.Pools.{idle_of, none_starts, start_fits, next_work, pool_kept, some_bit}
+use Rattle.ak_pool.proofs.Pools.{idle_of, none_starts, start_fits, may_fit, next_work, pool_kept, some_bit}
 use Rattle.ak_pool.proofs.pool.Pool.take.Goals as goal
 
 pub begin-requires-clause-idle : goal.begin-requires-clause-idle
@@ -22,7 +21,7 @@ invariant_of-self-in-Some c =
     let bit : cond (is_some c.begin.result) 1 0 ≡ 1 = ap some_bit c.in-Some.is in
     pool_kept p _ (event.Start t c.in-Some.task.id) c.self.invariant
     (start_fits p.desk t c.in-Some.task (sym c.is_closed.ensures ∙ c.if-is_closed.false) (omega (arith, lt, c.self.invariant.stands.size)) idle next)
-    refl refl c.push_reserved.ensures.items (c.begin.ensures.desk ∙ ap (λ n. begun_by (next_of p.desk n) n p.desk) c.number.ensures)
+    tt refl refl refl c.push_reserved.ensures.items (c.begin.ensures.desk ∙ ap (λ n. begun_by (next_of p.desk n) n p.desk) c.number.ensures) refl
     (λ b h le. omega (arith, h, bit, c.begin.ensures.due))
 
 pub returns-in-None-clause-taken : goal.returns-in-None-clause-taken
@@ -42,4 +41,4 @@ returns-in-Some-clause-taken c =
     let next : next_of p.desk t ≡ Some c.in-Some.task =
     ap (next_of p.desk) (sym c.number.ensures) ∙ sym c.begin.ensures.task ∙ c.in-Some.is in
     rw (← c.self.view_is)
-    (fits_legal p.threads p.events.items p.desk (event.Start t c.in-Some.task.id) c.self.invariant.stands (start_fits p.desk t c.in-Some.task (sym c.is_closed.ensures ∙ c.if-is_closed.false) (omega (arith, lt, c.self.invariant.stands.size)) idle next), next_work p.threads p.events.items p.desk t c.in-Some.task c.self.invariant.stands lt next, c.push_reserved.ensures.items)
+    (may_fit p.threads p.events.items p.desk t c.in-Some.task.id c.self.invariant.stands (start_fits p.desk t c.in-Some.task (sym c.is_closed.ensures ∙ c.if-is_closed.false) (omega (arith, lt, c.self.invariant.stands.size)) idle next), next_work p.threads p.events.items p.desk t c.in-Some.task c.self.invariant.stands lt next, c.push_reserved.ensures.items)
