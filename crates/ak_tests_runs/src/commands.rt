@@ -493,7 +493,7 @@ fn messages_are_told(rt: HostRuntime) -> Result<(), NoMemory> {
 #[test]
 fn a_script_is_tested_without_threads(rt: HostRuntime) -> Result<(), NoMemory> {
     let alloc = rt.alloc();
-    let words = vec![in alloc; word(alloc, "check")?]?;
+    let words = vec![in alloc; Items::from_vec(Vec::from_slice(alloc, b"check")?)]?;
     let mut source = MemSource::make(lines(alloc, "proc main; end")?, 4096, Vec::new(alloc));
     let mut sink = MemSink::make(alloc, 100, 100, Vec::new(alloc))?;
     let report = check_words(alloc, words.as_slice(), &mut source, &mut sink);

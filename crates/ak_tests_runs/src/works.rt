@@ -71,6 +71,16 @@ pub fn fetch<R: Wait>(
     }
 }
 
+// Puts the works that were fetched behind the others.
+fn put_behind(arrived: &mut Vec<(WorkNo, Outcome)>, fetched: &Arrivals) -> Result<(), NoMemory> {
+    for place in 0..fetched.len() {
+        if let Some(pair) = fetched.get(place) {
+            arrived.push(*pair)?;
+        }
+    }
+    Ok(())
+}
+
 // Waits until a work is finished, and fetches the finished works.
 fn fetch_some<R: Wait>(
     rt: &R,
@@ -108,7 +118,7 @@ fn hand_in_all<R: Wait>(
         if place % 2 == 1 {
             let mut fetched = Arrivals::make(alloc);
             fetch_some(rt, hub, pass, &mut fetched)?;
-            arrived.extend_from_slice(fetched.as_slice())?;
+            put_behind(&mut arrived, &fetched)?;
         }
     }
     for _ in rt.forever() {
@@ -117,7 +127,7 @@ fn hand_in_all<R: Wait>(
         }
         let mut fetched = Arrivals::make(alloc);
         fetch(rt, hub, pass, &mut fetched)?;
-        arrived.extend_from_slice(fetched.as_slice())?;
+        put_behind(&mut arrived, &fetched)?;
     }
     unreachable!()
 }
