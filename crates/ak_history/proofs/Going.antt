@@ -27,7 +27,8 @@ few_pieces ends [] = omega arith
 few_pieces ends (byte ∷ bytes) = few_with (ends byte) byte (pieces ends bytes) (length bytes) (few_pieces ends bytes)
 
 -- before the first line
-pub starts : (bytes : List ℕ) (first : ℕ) (r : Recorded) → r ≡ nothing_read → IsOn (text_lines bytes) first r (walked nothing_read (numbered first (lines_of bytes))) (first + length bytes)
+pub starts : (bytes : List ℕ) (first : ℕ) (r : Recorded) → r ≡ nothing_read
+    → IsOn (text_lines bytes) first r (walked nothing_read (numbered first (lines_of bytes))) (first + length bytes)
 starts bytes first r h = record {
   at = 1;
   texts = lines_of bytes;
@@ -53,10 +54,12 @@ pub record IsNext (line : TextLine) (rest : List TextLine) (number : ℕ) (r : R
   pub whole_is : walked r (placed number line.text ∷ numbered (number + 1) texts) ≡ whole
   pub few : number + 1 + length texts ≤ most
 
-pub next_line : (left rest : List TextLine) (line : TextLine) (number : ℕ) (r : Recorded) (whole : Result Recorded ℕ) (most : ℕ) → IsOn left number r whole most → left ≡ line ∷ rest → IsNext line rest number r whole most
+pub next_line : (left rest : List TextLine) (line : TextLine) (number : ℕ) (r : Recorded) (whole : Result Recorded ℕ) (most : ℕ)
+    → IsOn left number r whole most → left ≡ line ∷ rest → IsNext line rest number r whole most
 next_line left rest line number r whole most h is = of h.texts (sym is ∙ h.left_is) h.whole_is h.few
   where
-    of : (texts : List (List ℕ)) → line ∷ rest ≡ numbered h.at texts → walked r (numbered number texts) ≡ whole → number + length texts ≤ most → IsNext line rest number r whole most
+    of : (texts : List (List ℕ)) → line ∷ rest ≡ numbered h.at texts → walked r (numbered number texts) ≡ whole → number + length texts ≤ most
+        → IsNext line rest number r whole most
     of [] e whole_is few = cc
     of (text ∷ texts) e whole_is few =
         let first : line.text ≡ before_first begins_comment text = ap (λ (l : TextLine). l.text) (head_is e) in
@@ -68,7 +71,8 @@ next_line left rest line number r whole most h is = of h.texts (sym is ∙ h.lef
           few = omega (arith, few);
         }
 
-skipped : (r : Recorded) (number : ℕ) (line : TextLine) (lines : List TextLine) → counts line ≡ false → walked r (placed number line.text ∷ lines) ≡ walked r lines
+skipped : (r : Recorded) (number : ℕ) (line : TextLine) (lines : List TextLine) → counts line ≡ false
+    → walked r (placed number line.text ∷ lines) ≡ walked r lines
 unfolding walked
 skipped r number line lines h = rw h refl
 
@@ -78,13 +82,15 @@ unfolding walked line_taken line_found row_words
 taken r number line lines h = rw h refl
 
 -- behind a line that is skipped
-pub goes_past : (left rest : List TextLine) (line : TextLine) (number : ℕ) (r : Recorded) (whole : Result Recorded ℕ) (most : ℕ) → IsOn left number r whole most → left ≡ line ∷ rest → counts line ≡ false → IsOn rest (number + 1) r whole most
+pub goes_past : (left rest : List TextLine) (line : TextLine) (number : ℕ) (r : Recorded) (whole : Result Recorded ℕ) (most : ℕ)
+    → IsOn left number r whole most → left ≡ line ∷ rest → counts line ≡ false → IsOn rest (number + 1) r whole most
 goes_past left rest line number r whole most h is skip =
     let n = next_line left rest line number r whole most h is in
     record { at = n.at; texts = n.texts; left_is = n.rest_is; whole_is = sym (skipped r number line (numbered (number + 1) n.texts) skip) ∙ n.whole_is; few = n.few }
 
 -- behind a line that was taken
-pub goes_on : (left rest : List TextLine) (line : TextLine) (number : ℕ) (r now : Recorded) (whole : Result Recorded ℕ) (most : ℕ) → IsOn left number r whole most → left ≡ line ∷ rest → counts line ≡ true
+pub goes_on : (left rest : List TextLine) (line : TextLine) (number : ℕ) (r now : Recorded) (whole : Result Recorded ℕ) (most : ℕ)
+    → IsOn left number r whole most → left ≡ line ∷ rest → counts line ≡ true
     → line_taken r number line ≡ Some now → IsOn rest (number + 1) now whole most
 goes_on left rest line number r now whole most h is kept next =
     let n = next_line left rest line number r whole most h is in
@@ -98,7 +104,8 @@ goes_on left rest line number r now whole most h is kept next =
     }
 
 -- at a line that is refused
-pub stops : (X : Type 0) (left rest : List TextLine) (line : TextLine) (number : ℕ) (r now : Recorded) (whole : Result Recorded ℕ) (most : ℕ) (e : HistoryRefused) → IsOn left number r whole most → left ≡ line ∷ rest → counts line ≡ true
+pub stops : (X : Type 0) (left rest : List TextLine) (line : TextLine) (number : ℕ) (r now : Recorded) (whole : Result Recorded ℕ) (most : ℕ) (e : HistoryRefused)
+    → IsOn left number r whole most → left ≡ line ∷ rest → counts line ≡ true
     → Takes {X = X} (Err e) number now (line_taken r number line) → Tells (Err e) whole
 stops X left rest line number r now whole most (BadLine at) h is kept refused =
     let n = next_line left rest line number r whole most h is in
@@ -117,5 +124,6 @@ ends left number r whole most h none = of h.texts (sym none ∙ h.left_is) h.who
     of (text ∷ texts) e is = cc
 
 -- there is room for the next number
-pub small : (left rest : List TextLine) (line : TextLine) (number : ℕ) (r : Recorded) (whole : Result Recorded ℕ) (most : ℕ) → IsOn left number r whole most → left ≡ line ∷ rest → number + 1 ≤ most
+pub small : (left rest : List TextLine) (line : TextLine) (number : ℕ) (r : Recorded) (whole : Result Recorded ℕ) (most : ℕ)
+    → IsOn left number r whole most → left ≡ line ∷ rest → number + 1 ≤ most
 small left rest line number r whole most h is = let n = next_line left rest line number r whole most h is in omega (arith, n.few)

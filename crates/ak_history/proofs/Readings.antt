@@ -32,7 +32,8 @@ found_reads bytes first r h =
       few = all.few;
     }
 
-pub reads_found : (bytes : List ℕ) (first : ℕ) (events : List Event) (lines : List ℕ) → HistoryReads bytes first events lines → found bytes first ≡ Ok (recorded events lines)
+pub reads_found : (bytes : List ℕ) (first : ℕ) (events : List Event) (lines : List ℕ) → HistoryReads bytes first events lines
+    → found bytes first ≡ Ok (recorded events lines)
 reads_found bytes first events lines h =
     let few : length (rows_events h.rows) ≤ most_events = subst (λ (es : List Event). length es ≤ most_events) h.events_are h.few in
     let all = lines_from first bytes in
@@ -78,7 +79,8 @@ err_is e = cc
 mixed_up : (r : Recorded) (n : ℕ) → ok r ≡ Err n → ⊥
 mixed_up r n e = cc
 
-pub one_history : (bytes : List ℕ) (first : ℕ) (a b : List Event) (l m : List ℕ) → HistoryReads bytes first a l → HistoryReads bytes first b m → (a ≡ b) × (l ≡ m)
+pub one_history : (bytes : List ℕ) (first : ℕ) (a b : List Event) (l m : List ℕ) → HistoryReads bytes first a l → HistoryReads bytes first b m
+    → (a ≡ b) × (l ≡ m)
 one_history bytes first a b l m h k =
     let same = ok_is (sym (reads_found bytes first a l h) ∙ reads_found bytes first b m k) in
     (ap (λ (x : Recorded). x.history) same, ap (λ (x : Recorded). x.lines) same)
@@ -86,13 +88,16 @@ one_history bytes first a b l m h k =
 pub one_bad_line : (bytes : List ℕ) (first l m : ℕ) → IsFirstBad bytes first l → IsFirstBad bytes first m → l ≡ m
 one_bad_line bytes first l m h k = err_is (sym (bad_found bytes first l h) ∙ bad_found bytes first m k)
 
-pub never_both : (bytes : List ℕ) (first : ℕ) (events : List Event) (lines : List ℕ) (number : ℕ) → HistoryReads bytes first events lines → IsFirstBad bytes first number → ⊥
+pub never_both : (bytes : List ℕ) (first : ℕ) (events : List Event) (lines : List ℕ) (number : ℕ) → HistoryReads bytes first events lines
+    → IsFirstBad bytes first number → ⊥
 never_both bytes first events lines number h k = mixed_up (recorded events lines) number (sym (reads_found bytes first events lines h) ∙ bad_found bytes first number k)
 
-pub either : (bytes : List ℕ) (first : ℕ) → ((events : List Event) × (lines : List ℕ) × HistoryReads bytes first events lines) ⊎ ((number : ℕ) × IsFirstBad bytes first number)
+pub either : (bytes : List ℕ) (first : ℕ)
+    → ((events : List Event) × (lines : List ℕ) × HistoryReads bytes first events lines) ⊎ ((number : ℕ) × IsFirstBad bytes first number)
 either bytes first = of (found bytes first) refl
   where
-    of : (r : Result Recorded ℕ) → found bytes first ≡ r → ((events : List Event) × (lines : List ℕ) × HistoryReads bytes first events lines) ⊎ ((number : ℕ) × IsFirstBad bytes first number)
+    of : (r : Result Recorded ℕ) → found bytes first ≡ r
+        → ((events : List Event) × (lines : List ℕ) × HistoryReads bytes first events lines) ⊎ ((number : ℕ) × IsFirstBad bytes first number)
     of (Ok r) e = inl (r.history, r.lines, found_reads bytes first r e)
     of (Err number) e = inr (number, found_bad bytes first number e)
 
@@ -102,14 +107,16 @@ tells_right bytes first (Ok r) h = found_reads bytes first r h
 tells_right bytes first (Err (BadLine line)) h = found_bad bytes first line h
 tells_right bytes first (Err NoMemory) h = tt
 
-pub tells_history : (bytes : List ℕ) (first : ℕ) (events : List Event) (lines : List ℕ) (answer : Result Recorded HistoryRefused) → Tells answer (found bytes first) → HistoryReads bytes first events lines → IsHistory answer events lines
+pub tells_history : (bytes : List ℕ) (first : ℕ) (events : List Event) (lines : List ℕ) (answer : Result Recorded HistoryRefused)
+    → Tells answer (found bytes first) → HistoryReads bytes first events lines → IsHistory answer events lines
 tells_history bytes first events lines (Ok r) h k =
     let same = ok_is (sym h ∙ reads_found bytes first events lines k) in
     (ap (λ (x : Recorded). x.history) same, ap (λ (x : Recorded). x.lines) same)
 tells_history bytes first events lines (Err (BadLine line)) h k = mixed_up (recorded events lines) line (sym (reads_found bytes first events lines k) ∙ h)
 tells_history bytes first events lines (Err NoMemory) h k = tt
 
-pub tells_bad : (bytes : List ℕ) (first number : ℕ) (answer : Result Recorded HistoryRefused) → Tells answer (found bytes first) → IsFirstBad bytes first number → IsBadLine answer number
+pub tells_bad : (bytes : List ℕ) (first number : ℕ) (answer : Result Recorded HistoryRefused) → Tells answer (found bytes first)
+    → IsFirstBad bytes first number → IsBadLine answer number
 tells_bad bytes first number (Ok r) h k = mixed_up r number (sym h ∙ bad_found bytes first number k)
 tells_bad bytes first number (Err (BadLine line)) h k = err_is (sym h ∙ bad_found bytes first number k)
 tells_bad bytes first number (Err NoMemory) h k = tt

@@ -32,7 +32,8 @@ abbrev just : Option ℕ → Part (Option ℕ)
 just o words = Some (o, words)
 
 -- what one word alone stands for
-just_sound : (o x : Option ℕ) (word : List ℕ) (row : Option ℕ → List Place) (words left : List (List ℕ)) → row o ≡ Exactly word ∷ [] → just o words ≡ Some (x, left)
+just_sound : (o x : Option ℕ) (word : List ℕ) (row : Option ℕ → List Place) (words left : List (List ℕ)) → row o ≡ Exactly word ∷ []
+    → just o words ≡ Some (x, left)
     → (places : List Place) → AllZip Stands places left → AllZip Stands (row x ++ places) (word ∷ words)
 just_sound o x word row words left is h places rest =
     let same = some_pair h in
@@ -41,23 +42,28 @@ just_sound o x word row words left is h places rest =
     let P : Option ℕ → Type 0 = λ y. AllZip Stands (row y ++ places) (word ∷ words) in
     subst P same.0 (subst (λ (ps : List Place). AllZip Stands (ps ++ places) (word ∷ words)) (sym is) one)
 
-whom_sound : (word : List ℕ) (words left : List (List ℕ)) (x : Option ℕ) → for_whom_from word words ≡ Some (x, left) → (places : List Place) → AllZip Stands places left → AllZip Stands (whom_places x ++ places) (word ∷ words)
+whom_sound : (word : List ℕ) (words left : List (List ℕ)) (x : Option ℕ) → for_whom_from word words ≡ Some (x, left) → (places : List Place)
+    → AllZip Stands places left → AllZip Stands (whom_places x ++ places) (word ∷ words)
 whom_sound word words left x h places rest = of (chosen_part (bytes_eq word (codes "general")) (just None) (cond (bytes_eq word (codes "helper")) (mapped Some thing_at) nowhere) words (Some (x, left)) h)
   where
-    on_helper : ((bytes_eq word (codes "helper") ≡ true) × (mapped Some thing_at words ≡ Some (x, left))) ⊎ ((bytes_eq word (codes "helper") ≡ false) × (nowhere words ≡ Some (x, left))) → AllZip Stands (whom_places x ++ places) (word ∷ words)
+    on_helper : ((bytes_eq word (codes "helper") ≡ true) × (mapped Some thing_at words ≡ Some (x, left))) ⊎ ((bytes_eq word (codes "helper") ≡ false) × (nowhere words ≡ Some (x, left)))
+        → AllZip Stands (whom_places x ++ places) (word ∷ words)
     on_helper (inl e) = subst (λ (w : List ℕ). AllZip Stands (whom_places x ++ places) (w ∷ words)) (sym ((bytes_eq-Decides word (codes "helper")).0 e.0)) (mapped_sound Some (codes "helper") whom_places thing_part (λ n. refl) words left x e.1 places rest)
     on_helper (inr e) = let wrong : nowhere words ≡ Some (x, left) = e.1 in absurd cc
 
-    of : ((bytes_eq word (codes "general") ≡ true) × (just None words ≡ Some (x, left))) ⊎ ((bytes_eq word (codes "general") ≡ false) × ((cond (bytes_eq word (codes "helper")) (mapped Some thing_at) nowhere) words ≡ Some (x, left))) → AllZip Stands (whom_places x ++ places) (word ∷ words)
+    of : ((bytes_eq word (codes "general") ≡ true) × (just None words ≡ Some (x, left))) ⊎ ((bytes_eq word (codes "general") ≡ false) × ((cond (bytes_eq word (codes "helper")) (mapped Some thing_at) nowhere) words ≡ Some (x, left)))
+        → AllZip Stands (whom_places x ++ places) (word ∷ words)
     of (inl e) = subst (λ (w : List ℕ). AllZip Stands (whom_places x ++ places) (w ∷ words)) (sym ((bytes_eq-Decides word (codes "general")).0 e.0)) (just_sound None x (codes "general") whom_places words left refl e.1 places rest)
     of (inr e) = on_helper (chosen_part (bytes_eq word (codes "helper")) (mapped Some thing_at) nowhere words (Some (x, left)) e.1)
 
-whom_words_sound : (words left : List (List ℕ)) (x : Option ℕ) → for_whom_at words ≡ Some (x, left) → (places : List Place) → AllZip Stands places left → AllZip Stands (whom_places x ++ places) words
+whom_words_sound : (words left : List (List ℕ)) (x : Option ℕ) → for_whom_at words ≡ Some (x, left) → (places : List Place)
+    → AllZip Stands places left → AllZip Stands (whom_places x ++ places) words
 unfolding for_whom_at
 whom_words_sound [] left x h places rest = cc
 whom_words_sound (word ∷ words) left x h places rest = whom_sound word words left x h places rest
 
-whom_complete : (words : List (List ℕ)) (x : Option ℕ) (places : List Place) → AllZip Stands (whom_places x ++ places) words → (left : List (List ℕ)) × (for_whom_at words ≡ Some (x, left)) × AllZip Stands places left
+whom_complete : (words : List (List ℕ)) (x : Option ℕ) (places : List Place) → AllZip Stands (whom_places x ++ places) words
+    → (left : List (List ℕ)) × (for_whom_at words ≡ Some (x, left)) × AllZip Stands places left
 unfolding for_whom_at
 whom_complete [] None places h = absurd h
 whom_complete [] (Some helper) places h = absurd h
@@ -71,23 +77,28 @@ whom_part : IsPart whom_places for_whom_at
 whom_part = record { sound = whom_words_sound; complete = whom_complete }
 
 -- ---- what a helper is answered
-answer_sound : (word : List ℕ) (words left : List (List ℕ)) (x : Option ℕ) → answer_from word words ≡ Some (x, left) → (places : List Place) → AllZip Stands places left → AllZip Stands (answer_places x ++ places) (word ∷ words)
+answer_sound : (word : List ℕ) (words left : List (List ℕ)) (x : Option ℕ) → answer_from word words ≡ Some (x, left) → (places : List Place)
+    → AllZip Stands places left → AllZip Stands (answer_places x ++ places) (word ∷ words)
 answer_sound word words left x h places rest = of (chosen_part (bytes_eq word (codes "granted")) (mapped Some thing_at) (cond (bytes_eq word (codes "refused")) (just None) nowhere) words (Some (x, left)) h)
   where
-    on_refused : ((bytes_eq word (codes "refused") ≡ true) × (just None words ≡ Some (x, left))) ⊎ ((bytes_eq word (codes "refused") ≡ false) × (nowhere words ≡ Some (x, left))) → AllZip Stands (answer_places x ++ places) (word ∷ words)
+    on_refused : ((bytes_eq word (codes "refused") ≡ true) × (just None words ≡ Some (x, left))) ⊎ ((bytes_eq word (codes "refused") ≡ false) × (nowhere words ≡ Some (x, left)))
+        → AllZip Stands (answer_places x ++ places) (word ∷ words)
     on_refused (inl e) = subst (λ (w : List ℕ). AllZip Stands (answer_places x ++ places) (w ∷ words)) (sym ((bytes_eq-Decides word (codes "refused")).0 e.0)) (just_sound None x (codes "refused") answer_places words left refl e.1 places rest)
     on_refused (inr e) = let wrong : nowhere words ≡ Some (x, left) = e.1 in absurd cc
 
-    of : ((bytes_eq word (codes "granted") ≡ true) × (mapped Some thing_at words ≡ Some (x, left))) ⊎ ((bytes_eq word (codes "granted") ≡ false) × ((cond (bytes_eq word (codes "refused")) (just None) nowhere) words ≡ Some (x, left))) → AllZip Stands (answer_places x ++ places) (word ∷ words)
+    of : ((bytes_eq word (codes "granted") ≡ true) × (mapped Some thing_at words ≡ Some (x, left))) ⊎ ((bytes_eq word (codes "granted") ≡ false) × ((cond (bytes_eq word (codes "refused")) (just None) nowhere) words ≡ Some (x, left)))
+        → AllZip Stands (answer_places x ++ places) (word ∷ words)
     of (inl e) = subst (λ (w : List ℕ). AllZip Stands (answer_places x ++ places) (w ∷ words)) (sym ((bytes_eq-Decides word (codes "granted")).0 e.0)) (mapped_sound Some (codes "granted") answer_places thing_part (λ n. refl) words left x e.1 places rest)
     of (inr e) = on_refused (chosen_part (bytes_eq word (codes "refused")) (just None) nowhere words (Some (x, left)) e.1)
 
-answer_words_sound : (words left : List (List ℕ)) (x : Option ℕ) → answer_at words ≡ Some (x, left) → (places : List Place) → AllZip Stands places left → AllZip Stands (answer_places x ++ places) words
+answer_words_sound : (words left : List (List ℕ)) (x : Option ℕ) → answer_at words ≡ Some (x, left) → (places : List Place)
+    → AllZip Stands places left → AllZip Stands (answer_places x ++ places) words
 unfolding answer_at
 answer_words_sound [] left x h places rest = cc
 answer_words_sound (word ∷ words) left x h places rest = answer_sound word words left x h places rest
 
-answer_complete : (words : List (List ℕ)) (x : Option ℕ) (places : List Place) → AllZip Stands (answer_places x ++ places) words → (left : List (List ℕ)) × (answer_at words ≡ Some (x, left)) × AllZip Stands places left
+answer_complete : (words : List (List ℕ)) (x : Option ℕ) (places : List Place) → AllZip Stands (answer_places x ++ places) words
+    → (left : List (List ℕ)) × (answer_at words ≡ Some (x, left)) × AllZip Stands places left
 unfolding answer_at
 answer_complete [] None places h = absurd h
 answer_complete [] (Some thread) places h = absurd h
@@ -108,10 +119,12 @@ abbrev work_from : WorkKind × ℤ → Work
 work_from t = record { kind = t.0; num = t.1 }
 
 -- the image of a part, which has the row of its preimage
-renamed_part : {A B : Type 0} (f : A → B) (g : B → A) {row : A → List Place} {part : Part A} → ((y : B) → f (g y) ≡ y) → ((x : A) → g (f x) ≡ x) → IsPart row part → IsPart (λ y. row (g y)) (mapped f part)
+renamed_part : {A B : Type 0} (f : A → B) (g : B → A) {row : A → List Place} {part : Part A} → ((y : B) → f (g y) ≡ y) → ((x : A) → g (f x) ≡ x)
+    → IsPart row part → IsPart (λ y. row (g y)) (mapped f part)
 renamed_part {A} {B} f g {row} {part} there back p = record { sound = sound; complete = complete }
   where
-    sound : (words left : List (List ℕ)) (y : B) → mapped f part words ≡ Some (y, left) → (places : List Place) → AllZip Stands places left → AllZip Stands (row (g y) ++ places) words
+    sound : (words left : List (List ℕ)) (y : B) → mapped f part words ≡ Some (y, left) → (places : List Place) → AllZip Stands places left
+        → AllZip Stands (row (g y) ++ places) words
     sound words left y h places rest =
         let x = bind_some (part words) (image f) (y, left) h in
         let found = some_pair x.2 in
@@ -119,7 +132,8 @@ renamed_part {A} {B} f g {row} {part} there back p = record { sound = sound; com
         let P : A → Type 0 = λ v. AllZip Stands (row v ++ places) words in
         subst P (sym (back x.0.0) ∙ ap g found.0) (p.sound words x.0.1 x.0.0 x.1 places last)
 
-    complete : (words : List (List ℕ)) (y : B) (places : List Place) → AllZip Stands (row (g y) ++ places) words → (left : List (List ℕ)) × (mapped f part words ≡ Some (y, left)) × AllZip Stands places left
+    complete : (words : List (List ℕ)) (y : B) (places : List Place) → AllZip Stands (row (g y) ++ places) words
+        → (left : List (List ℕ)) × (mapped f part words ≡ Some (y, left)) × AllZip Stands places left
     complete words y places h =
         let z = mapped_complete f p words (g y) places h in
         (z.0, subst (λ (v : B). mapped f part words ≡ Some (v, z.0)) (there y) z.1, z.2)
@@ -174,7 +188,8 @@ some_sound words (q ∷ ids) requests all h =
     let these : P (q ∷ ids) = (refl, all) in
     subst P (some_is h) these
 
-requests_sound : (words : List (List ℕ)) (requests : List ℕ) → requests_of words ≡ Some requests → AllZip Stands (request_places requests) (codes "requests" ∷ words)
+requests_sound : (words : List (List ℕ)) (requests : List ℕ) → requests_of words ≡ Some requests
+    → AllZip Stands (request_places requests) (codes "requests" ∷ words)
 unfolding requests_of
 requests_sound words requests h =
     let found = bind_some (longs_of words) some_requests requests h in
@@ -206,14 +221,17 @@ brought_sound (word ∷ words) t h = of (bytes_eq word (codes "requests")) refl 
         let these : P (a.0 ∷ b.0.0, b.0.1) = (thing_reads word a.0 a.1, ih b.0 b.1) in
         subst P (some_is b.2) these
 
-requests_complete : (q : ℕ) (requests : List ℕ) (words : List (List ℕ)) → AllZip Stands (map LongNumber (q ∷ requests)) words → requests_of words ≡ Some (q ∷ requests)
+requests_complete : (q : ℕ) (requests : List ℕ) (words : List (List ℕ)) → AllZip Stands (map LongNumber (q ∷ requests)) words
+    → requests_of words ≡ Some (q ∷ requests)
 unfolding requests_of
 requests_complete q requests words h = ap (λ (o : Option (List ℕ)). o >>= some_requests) (longs_complete (q ∷ requests) words h)
 
-alone_complete : (q : ℕ) (requests : List ℕ) (words : List (List ℕ)) → AllZip Stands (map LongNumber (q ∷ requests)) words → requests_alone words ≡ Some ([], q ∷ requests)
+alone_complete : (q : ℕ) (requests : List ℕ) (words : List (List ℕ)) → AllZip Stands (map LongNumber (q ∷ requests)) words
+    → requests_alone words ≡ Some ([], q ∷ requests)
 alone_complete q requests words h = ap (λ (o : Option (List ℕ)). o >>= λ found. Some ([], found)) (requests_complete q requests words h)
 
-brought_complete : (ids requests : List ℕ) (words : List (List ℕ)) → AllZip Stands (map Thing ids ++ request_places requests) words → brought_of words ≡ Some (ids, requests)
+brought_complete : (ids requests : List ℕ) (words : List (List ℕ)) → AllZip Stands (map Thing ids ++ request_places requests) words
+    → brought_of words ≡ Some (ids, requests)
 unfolding brought_of
 brought_complete [] [] [] h = refl
 brought_complete [] [] (word ∷ words) h = absurd h
@@ -230,7 +248,8 @@ brought_complete (id ∷ ids) requests (word ∷ words) h =
 
 -- ---- the words behind the first
 -- what is found in all words behind a first one has the row of its event
-event_sound : {T : Type 0} (f : T → Event) (word : List ℕ) (row : T → List Place) (part : Part T) → IsPart row part → ((t : T) → event_row (f t) ≡ Exactly word ∷ row t)
+event_sound : {T : Type 0} (f : T → Event) (word : List ℕ) (row : T → List Place) (part : Part T) → IsPart row part
+    → ((t : T) → event_row (f t) ≡ Exactly word ∷ row t)
     → (words : List (List ℕ)) (e : Event) → (whole part words >>= λ t. Some (f t)) ≡ Some e → AllZip Stands (event_row e) (word ∷ words)
 event_sound {T} f word row part p same words e h =
     let t = bind_some (whole part words) (λ t. Some (f t)) e h in
@@ -238,7 +257,8 @@ event_sound {T} f word row part p same words e h =
     let P : Event → Type 0 = λ x. AllZip Stands (event_row x) (word ∷ words) in
     subst P (some_is t.2) (subst (λ (ps : List Place). AllZip Stands ps (word ∷ words)) (sym (same t.0)) all)
 
-event_complete : {T : Type 0} (f : T → Event) (row : T → List Place) (part : Part T) → IsPart row part → (words : List (List ℕ)) (t : T) → AllZip Stands (row t) words → (whole part words >>= λ t. Some (f t)) ≡ Some (f t)
+event_complete : {T : Type 0} (f : T → Event) (row : T → List Place) (part : Part T) → IsPart row part → (words : List (List ℕ)) (t : T)
+    → AllZip Stands (row t) words → (whole part words >>= λ t. Some (f t)) ≡ Some (f t)
 event_complete f row part p words t h = bind_is (whole part words) (λ t. Some (f t)) t (whole_complete row part p words t h)
 
 -- whom a work is for stands in front of the work
@@ -389,7 +409,8 @@ close_sound [] e h =
     subst P (some_is h) line
 close_sound (word ∷ words) e h = cc
 
-drain_line : (words : List (List ℕ)) (t : List ℕ × List ℕ) (e : Event) → AllZip Stands (brought_places t) words → some_drain t ≡ Some e → has_line e (codes "drain") words
+drain_line : (words : List (List ℕ)) (t : List ℕ × List ℕ) (e : Event) → AllZip Stands (brought_places t) words → some_drain t ≡ Some e
+    → has_line e (codes "drain") words
 drain_line words ([], []) e all h = cc
 drain_line words ([], q ∷ requests) e all h =
     let P : Event → Type 0 = λ x. IsLineOf (Of x) (codes "drain" ∷ words) in
@@ -414,7 +435,8 @@ idle_sound words line h =
     let one : P (Idle n.0) = record { row = (refl, whole_sound (λ k. Counted k ∷ []) count_at count_part words n.0 n.1); brings = tt } in
     subst P (some_is n.2) one
 
-as_line : (o : Option Event) (word : List ℕ) (words : List (List ℕ)) (line : HistoryLine) → of_event o ≡ Some line → ((e : Event) → o ≡ Some e → has_line e word words) → IsLineOf line (word ∷ words)
+as_line : (o : Option Event) (word : List ℕ) (words : List (List ℕ)) (line : HistoryLine) → of_event o ≡ Some line
+    → ((e : Event) → o ≡ Some e → has_line e word words) → IsLineOf line (word ∷ words)
 as_line o word words line h sound =
     let e = bind_some o (λ e. Some (Of e)) line h in
     subst (λ (x : HistoryLine). IsLineOf x (word ∷ words)) (some_is e.2) (sound e.0 e.1)
@@ -432,7 +454,8 @@ by_sound first.Helper words line h = as_line (helper_of words) (codes "helper") 
 by_sound first.HelperEnd words line h = as_line (helper_end_of words) (codes "helperend") words line h (helper_end_sound words)
 by_sound first.Close words line h = as_line (close_of words) (codes "close") words line h (close_sound words)
 
-named_by : (word : List ℕ) (words : List (List ℕ)) (line : HistoryLine) → (first_named word >>= λ one. line_by one words) ≡ Some line → IsLineOf line (word ∷ words)
+named_by : (word : List ℕ) (words : List (List ℕ)) (line : HistoryLine) → (first_named word >>= λ one. line_by one words) ≡ Some line
+    → IsLineOf line (word ∷ words)
 unfolding first_named
 named_by word words line h =
     let one = bind_some (first_named word) (λ one. line_by one words) line h in
@@ -463,7 +486,8 @@ named first.Helper = refl
 named first.HelperEnd = refl
 named first.Close = refl
 
-first_found : (one : FirstWord) (word : List ℕ) (words : List (List ℕ)) (line : HistoryLine) → word ≡ first_word one → found_as one words line → line_of (word ∷ words) ≡ Some line
+first_found : (one : FirstWord) (word : List ℕ) (words : List (List ℕ)) (line : HistoryLine) → word ≡ first_word one → found_as one words line
+    → line_of (word ∷ words) ≡ Some line
 unfolding line_of
 first_found one word words line is h =
     ap (λ (w : List ℕ). first_named w >>= λ x. line_by x words) is ∙ (ap (λ (o : Option FirstWord). o >>= λ x. line_by x words) (named one) ∙ h)
@@ -471,7 +495,8 @@ first_found one word words line is h =
 event_line : (o : Option Event) (e : Event) → o ≡ Some e → of_event o ≡ Some (Of e)
 event_line o e h = ap of_event h
 
-submit_complete : (words : List (List ℕ)) (id : ℕ) (work : Work) (helper : Option ℕ) → AllZip Stands (Thing id ∷ submit_places helper (work_places work)) words → submit_of words ≡ Some (event.Submit id work helper)
+submit_complete : (words : List (List ℕ)) (id : ℕ) (work : Work) (helper : Option ℕ)
+    → AllZip Stands (Thing id ∷ submit_places helper (work_places work)) words → submit_of words ≡ Some (event.Submit id work helper)
 unfolding submit_of
 submit_complete words id work helper h =
     event_complete submit_from submit_parts (both thing_at (both for_whom_at work_at)) submit_is words (id, (helper, work))
@@ -481,11 +506,13 @@ start_complete : (words : List (List ℕ)) (thread id : ℕ) → AllZip Stands (
 unfolding start_of
 start_complete words thread id h = event_complete start_from start_parts (both thing_at thing_at) start_is words (thread, id) h
 
-finish_complete : (words : List (List ℕ)) (thread id : ℕ) (outcome : Outcome) → AllZip Stands (Thing thread ∷ Thing id ∷ outcome_places outcome) words → finish_of words ≡ Some (event.Finish thread id outcome)
+finish_complete : (words : List (List ℕ)) (thread id : ℕ) (outcome : Outcome) → AllZip Stands (Thing thread ∷ Thing id ∷ outcome_places outcome) words
+    → finish_of words ≡ Some (event.Finish thread id outcome)
 unfolding finish_of
 finish_complete words thread id outcome h = event_complete finish_from finish_parts (both thing_at (both thing_at outcome_at)) finish_is words (thread, (id, outcome)) h
 
-helper_complete : (words : List (List ℕ)) (helper : ℕ) (answer : Option ℕ) → AllZip Stands (Thing helper ∷ answer_places answer) words → helper_of words ≡ Some (event.HelperNew helper answer)
+helper_complete : (words : List (List ℕ)) (helper : ℕ) (answer : Option ℕ) → AllZip Stands (Thing helper ∷ answer_places answer) words
+    → helper_of words ≡ Some (event.HelperNew helper answer)
 unfolding helper_of
 helper_complete words helper answer h = event_complete helper_from helper_parts (both thing_at answer_at) helper_is words (helper, answer) h
 
@@ -498,7 +525,8 @@ unfolding close_of
 close_complete [] h = refl
 close_complete (word ∷ words) h = absurd h
 
-request_complete : (words : List (List ℕ)) (q asker : ℕ) (n : ℤ) → AllZip Stands (LongNumber q ∷ Thing asker ∷ Signed n ∷ []) words → request_of words ≡ Some (event.Request q asker n)
+request_complete : (words : List (List ℕ)) (q asker : ℕ) (n : ℤ) → AllZip Stands (LongNumber q ∷ Thing asker ∷ Signed n ∷ []) words
+    → request_of words ≡ Some (event.Request q asker n)
 unfolding request_of
 request_complete words q asker n h = event_complete request_from request_parts (both long_at (both thing_at signed_at)) request_is words (q, (asker, n)) h
 
@@ -515,7 +543,8 @@ is_some_drain [] [] some = absurd (omega arith)
 is_some_drain [] (q ∷ requests) some = refl
 is_some_drain (id ∷ ids) requests some = refl
 
-drain_complete : (words : List (List ℕ)) (ids requests : List ℕ) → 1 ≤ length ids + length requests → AllZip Stands (map Thing ids ++ request_places requests) words
+drain_complete : (words : List (List ℕ)) (ids requests : List ℕ) → 1 ≤ length ids + length requests
+    → AllZip Stands (map Thing ids ++ request_places requests) words
     → drain_of words ≡ Some (event.Drain ids requests)
 unfolding drain_of
 drain_complete words ids requests some h =

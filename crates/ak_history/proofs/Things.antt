@@ -30,7 +30,8 @@ one_more : (front : List ℕ) (q : ℕ) (rest : Option (List ℕ)) → with_fron
 one_more front q (Some requests) = ap (λ (xs : List ℕ). Some xs) (sym (append_assoc front (q ∷ []) requests))
 one_more front q None = refl
 
-goes_on : (front : List ℕ) (word : List ℕ) (words : List (List ℕ)) (q : ℕ) → long_of word ≡ Some q → with_front front (longs_of (word ∷ words)) ≡ with_front (front ++ q ∷ []) (longs_of words)
+goes_on : (front : List ℕ) (word : List ℕ) (words : List (List ℕ)) (q : ℕ) → long_of word ≡ Some q
+    → with_front front (longs_of (word ∷ words)) ≡ with_front (front ++ q ∷ []) (longs_of words)
 unfolding longs_of
 goes_on front word words q h = ap (λ (o : Option (List ℕ)). with_front front o) (rw h refl) ∙ one_more front q (longs_of words)
 
@@ -42,18 +43,21 @@ ends : (front : List ℕ) → with_front front (longs_of []) ≡ Some front
 unfolding longs_of
 ends front = ap (λ (xs : List ℕ). Some xs) (append-nil front)
 
-pub one_request_more : (front now : List ℕ) (words left : List (List ℕ)) (word : List ℕ) (q : ℕ) (whole : Option (List ℕ)) → with_front front (longs_of words) ≡ whole → word_at words ≡ Some (word, left) → long_of word ≡ Some q
+pub one_request_more : (front now : List ℕ) (words left : List (List ℕ)) (word : List ℕ) (q : ℕ) (whole : Option (List ℕ))
+    → with_front front (longs_of words) ≡ whole → word_at words ≡ Some (word, left) → long_of word ≡ Some q
     → now ≡ front ++ q ∷ [] → with_front now (longs_of left) ≡ whole
 one_request_more front now words left word q whole so_far h is grown =
     rw grown (sym (goes_on front word left q is) ∙ (ap (λ ws. with_front front (longs_of ws)) (sym (next_is words left word h)) ∙ so_far))
 
-pub no_request : (front : List ℕ) (words left : List (List ℕ)) (word : List ℕ) (whole : Option (List ℕ)) → with_front front (longs_of words) ≡ whole → word_at words ≡ Some (word, left) → long_of word ≡ None
+pub no_request : (front : List ℕ) (words left : List (List ℕ)) (word : List ℕ) (whole : Option (List ℕ)) → with_front front (longs_of words) ≡ whole
+    → word_at words ≡ Some (word, left) → long_of word ≡ None
     → None ≡ (whole >>= some_requests)
 no_request front words left word whole so_far h none =
     let all : whole ≡ None = sym so_far ∙ (ap (λ ws. with_front front (longs_of ws)) (next_is words left word h) ∙ stops front word left none) in
     rw all refl
 
-pub all_requests : (front : List ℕ) (words : List (List ℕ)) (whole : Option (List ℕ)) → with_front front (longs_of words) ≡ whole → word_at words ≡ None → whole ≡ Some front
+pub all_requests : (front : List ℕ) (words : List (List ℕ)) (whole : Option (List ℕ)) → with_front front (longs_of words) ≡ whole
+    → word_at words ≡ None → whole ≡ Some front
 all_requests front words whole so_far h = sym so_far ∙ (ap (λ ws. with_front front (longs_of ws)) (none_is words h) ∙ ends front)
 
 pub are_some : (requests : List ℕ) → (length requests ≡ 0 → ⊥) → some_requests requests ≡ Some requests
@@ -97,26 +101,30 @@ nothing_next : (front : List ℕ) → with_works front (brought_of []) ≡ Some 
 unfolding brought_of
 nothing_next front = ap (λ (xs : List ℕ). Some (xs, [])) (append-nil front)
 
-pub one_work_more : (front now : List ℕ) (words left : List (List ℕ)) (word : List ℕ) (id : ℕ) (whole : Option (List ℕ × List ℕ)) → with_works front (brought_of words) ≡ whole → word_at words ≡ Some (word, left)
+pub one_work_more : (front now : List ℕ) (words left : List (List ℕ)) (word : List ℕ) (id : ℕ) (whole : Option (List ℕ × List ℕ))
+    → with_works front (brought_of words) ≡ whole → word_at words ≡ Some (word, left)
     → bytes_eq word (codes "requests") ≡ false → thing_of word ≡ Some id → now ≡ front ++ id ∷ [] → with_works now (brought_of left) ≡ whole
 one_work_more front now words left word id whole so_far h other is grown =
     rw grown (sym (work_next front word left id other is) ∙ (ap (λ ws. with_works front (brought_of ws)) (sym (next_is words left word h)) ∙ so_far))
 
-pub no_drain : (front : List ℕ) (words left : List (List ℕ)) (word : List ℕ) (whole : Option (List ℕ × List ℕ)) → with_works front (brought_of words) ≡ whole → word_at words ≡ Some (word, left)
+pub no_drain : (front : List ℕ) (words left : List (List ℕ)) (word : List ℕ) (whole : Option (List ℕ × List ℕ))
+    → with_works front (brought_of words) ≡ whole → word_at words ≡ Some (word, left)
     → bytes_eq word (codes "requests") ≡ false → thing_of word ≡ None → None ≡ (whole >>= some_drain)
 no_drain front words left word whole so_far h other none =
     let all : whole ≡ None = sym so_far ∙ (ap (λ ws. with_works front (brought_of ws)) (next_is words left word h) ∙ no_work_next front word left other none) in
     rw all refl
 
 -- what stands behind the word `requests` is read
-behind_word : (front : List ℕ) (words left : List (List ℕ)) (word : List ℕ) (whole : Option (List ℕ × List ℕ)) (o : Option (List ℕ)) → with_works front (brought_of words) ≡ whole → word_at words ≡ Some (word, left)
+behind_word : (front : List ℕ) (words left : List (List ℕ)) (word : List ℕ) (whole : Option (List ℕ × List ℕ)) (o : Option (List ℕ))
+    → with_works front (brought_of words) ≡ whole → word_at words ≡ Some (word, left)
     → bytes_eq word (codes "requests") ≡ true → o ≡ requests_of left → whole ≡ with_works front (o >>= λ requests. Some ([], requests))
 behind_word front words left word whole o so_far h is found =
     sym so_far
     ∙ (ap (λ ws. with_works front (brought_of ws)) (next_is words left word h)
     ∙ (requests_next front word left is ∙ ap (λ x. with_works front (x >>= λ requests. Some ([], requests))) (sym found)))
 
-pub no_requests : (front : List ℕ) (words left : List (List ℕ)) (word : List ℕ) (whole : Option (List ℕ × List ℕ)) → with_works front (brought_of words) ≡ whole → word_at words ≡ Some (word, left)
+pub no_requests : (front : List ℕ) (words left : List (List ℕ)) (word : List ℕ) (whole : Option (List ℕ × List ℕ))
+    → with_works front (brought_of words) ≡ whole → word_at words ≡ Some (word, left)
     → bytes_eq word (codes "requests") ≡ true → None ≡ requests_of left → None ≡ (whole >>= some_drain)
 no_requests front words left word whole so_far h is none =
     let all = behind_word front words left word whole None so_far h is none in
@@ -136,13 +144,15 @@ some_behind words requests h = of (longs_of words) h
     of (Some []) e none = cc
     of (Some (q ∷ rest)) e none = cc
 
-pub with_requests : (front : List ℕ) (words left : List (List ℕ)) (word : List ℕ) (whole : Option (List ℕ × List ℕ)) (requests : List ℕ) → with_works front (brought_of words) ≡ whole → word_at words ≡ Some (word, left)
+pub with_requests : (front : List ℕ) (words left : List (List ℕ)) (word : List ℕ) (whole : Option (List ℕ × List ℕ)) (requests : List ℕ)
+    → with_works front (brought_of words) ≡ whole → word_at words ≡ Some (word, left)
     → bytes_eq word (codes "requests") ≡ true → Some requests ≡ requests_of left → Some (event.Drain front requests) ≡ (whole >>= some_drain)
 with_requests front words left word whole requests so_far h is found =
     let all = behind_word front words left word whole (Some requests) so_far h is found in
     rw (all, append-nil front) (sym (is_drain front requests (some_behind left requests (sym found))))
 
-pub all_works : (front : List ℕ) (words : List (List ℕ)) (whole : Option (List ℕ × List ℕ)) → with_works front (brought_of words) ≡ whole → word_at words ≡ None → whole ≡ Some (front, [])
+pub all_works : (front : List ℕ) (words : List (List ℕ)) (whole : Option (List ℕ × List ℕ)) → with_works front (brought_of words) ≡ whole
+    → word_at words ≡ None → whole ≡ Some (front, [])
 all_works front words whole so_far h = sym so_far ∙ (ap (λ ws. with_works front (brought_of ws)) (none_is words h) ∙ nothing_next front)
 
 pub drained : (ids : List ℕ) → (length ids ≡ 0 → ⊥) → some_drain (ids, []) ≡ Some (event.Drain ids [])

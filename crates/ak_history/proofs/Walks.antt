@@ -76,11 +76,13 @@ grown_by : (r : Recorded) (number : ℕ) (row : HistoryLine) → length (with_li
 grown_by r number row = length-append r.history (line_events row) ∙ ap (λ (k : ℕ). length r.history + k) (count_is row)
 
 -- ---- room
-pub added_is : (r next : Recorded) (number : ℕ) (row : HistoryLine) → line_added r number row ≡ Some next → (next ≡ with_line r number row) × (length next.history ≤ most_events)
+pub added_is : (r next : Recorded) (number : ℕ) (row : HistoryLine) → line_added r number row ≡ Some next
+    → (next ≡ with_line r number row) × (length next.history ≤ most_events)
 unfolding line_added
 added_is r next number row h = of (nat_le (length r.history + count_of_events row) most_events) refl h
   where
-    of : (b : Bool) → nat_le (length r.history + count_of_events row) most_events ≡ b → cond b (Some (with_line r number row)) None ≡ Some next → (next ≡ with_line r number row) × (length next.history ≤ most_events)
+    of : (b : Bool) → nat_le (length r.history + count_of_events row) most_events ≡ b → cond b (Some (with_line r number row)) None ≡ Some next
+        → (next ≡ with_line r number row) × (length next.history ≤ most_events)
     of true e h =
         let same : next ≡ with_line r number row = sym (some_is h) in
         let room : length r.history + count_of_events row ≤ most_events = grind arith in
@@ -88,7 +90,8 @@ added_is r next number row h = of (nat_le (length r.history + count_of_events ro
         (same, rw same (omega (arith, grown, room)))
     of false e h = cc
 
-pub added_some : (r : Recorded) (number : ℕ) (row : HistoryLine) → length r.history + length (line_events row) ≤ most_events → line_added r number row ≡ Some (with_line r number row)
+pub added_some : (r : Recorded) (number : ℕ) (row : HistoryLine) → length r.history + length (line_events row) ≤ most_events
+    → line_added r number row ≡ Some (with_line r number row)
 unfolding line_added
 added_some r number row h =
     let count = count_is row in
@@ -106,19 +109,22 @@ none_added : (r : Recorded) (number : ℕ) (row : HistoryLine) → line_added r 
 unfolding line_added
 none_added r number row h = of (nat_le (length r.history + count_of_events row) most_events) refl h
   where
-    of : (b : Bool) → nat_le (length r.history + count_of_events row) most_events ≡ b → cond b (Some (with_line r number row)) None ≡ None → most_events < length r.history + length (line_events row)
+    of : (b : Bool) → nat_le (length r.history + count_of_events row) most_events ≡ b → cond b (Some (with_line r number row)) None ≡ None
+        → most_events < length r.history + length (line_events row)
     of true e h = cc
     of false e h = let count = count_is row in grind arith
 
 -- ---- a line behind others
-pub taken_reads : (r next : Recorded) (number : ℕ) (line : TextLine) → line_taken r number line ≡ Some next → (row : HistoryLine) × IsHistoryLine row line × (next ≡ with_line r number row) × (length next.history ≤ most_events)
+pub taken_reads : (r next : Recorded) (number : ℕ) (line : TextLine) → line_taken r number line ≡ Some next
+    → (row : HistoryLine) × IsHistoryLine row line × (next ≡ with_line r number row) × (length next.history ≤ most_events)
 unfolding line_taken
 taken_reads r next number line h =
     let row = bind_some (line_found line) (line_added r number) next h in
     let added = added_is r next number row.0 row.2 in
     (row.0, found_reads line row.0 row.1, added.0, added.1)
 
-pub taken_some : (r : Recorded) (number : ℕ) (line : TextLine) (row : HistoryLine) → IsHistoryLine row line → length r.history + length (line_events row) ≤ most_events → line_taken r number line ≡ Some (with_line r number row)
+pub taken_some : (r : Recorded) (number : ℕ) (line : TextLine) (row : HistoryLine) → IsHistoryLine row line
+    → length r.history + length (line_events row) ≤ most_events → line_taken r number line ≡ Some (with_line r number row)
 unfolding line_taken
 taken_some r number line row h room = bind_is (line_found line) (line_added r number) row (found_is line row h) ∙ added_some r number row room
 
@@ -140,11 +146,13 @@ abbrev pub walk : Recorded → List TextLine → Result Recorded ℕ
 walk r [] = Ok r
 walk r (line ∷ lines) = walked_next line.number (line_taken r line.number line) (λ next. walk next lines)
 
-then_same : (number : ℕ) (o : Option Recorded) (f g : Recorded → Result Recorded ℕ) → ((next : Recorded) → f next ≡ g next) → walked_next number o f ≡ walked_next number o g
+then_same : (number : ℕ) (o : Option Recorded) (f g : Recorded → Result Recorded ℕ) → ((next : Recorded) → f next ≡ g next)
+    → walked_next number o f ≡ walked_next number o g
 then_same number (Some next) f g h = h next
 then_same number None f g h = refl
 
-one_kept : (b : Bool) (line : TextLine) (lines : List TextLine) (r : Recorded) → counts line ≡ b → ((next : Recorded) → walked next lines ≡ walk next (filter counts lines))
+one_kept : (b : Bool) (line : TextLine) (lines : List TextLine) (r : Recorded) → counts line ≡ b
+    → ((next : Recorded) → walked next lines ≡ walk next (filter counts lines))
     → cond b (walked_next line.number (line_taken r line.number line) (λ next. walked next lines)) (walked r lines) ≡ walk r (filter counts (line ∷ lines))
 one_kept true line lines r e ih = rw e (then_same line.number (line_taken r line.number line) (λ next. walked next lines) (λ next. walk next (filter counts lines)) ih)
 one_kept false line lines r e ih = rw e (ih r)
@@ -177,7 +185,8 @@ pub record AreRows (r last : Recorded) (lines : List TextLine) : Type 0 where
   pub last_is : last ≡ with_lines r rows lines
   pub few : length last.history ≤ most_events
 
-one_ok : (line : TextLine) (lines : List TextLine) (r last : Recorded) (o : Option Recorded) → line_taken r line.number line ≡ o → walk r (line ∷ lines) ≡ Ok last
+one_ok : (line : TextLine) (lines : List TextLine) (r last : Recorded) (o : Option Recorded) → line_taken r line.number line ≡ o
+    → walk r (line ∷ lines) ≡ Ok last
     → ((next : Recorded) → length next.history ≤ most_events → walk next lines ≡ Ok last → AreRows next last lines) → AreRows r last (line ∷ lines)
 one_ok line lines r last (Some next) is h ih =
     let row = taken_reads r next line.number line is in
@@ -206,7 +215,8 @@ pub record AreBad (r : Recorded) (lines : List TextLine) (number : ℕ) : Type 0
   pub bad : IsBadBehind (length (with_lines r rows before).history) line
   pub number_is : number ≡ line.number
 
-one_err : (line : TextLine) (lines : List TextLine) (r : Recorded) (number : ℕ) (o : Option Recorded) → line_taken r line.number line ≡ o → length r.history ≤ most_events → walk r (line ∷ lines) ≡ Err number
+one_err : (line : TextLine) (lines : List TextLine) (r : Recorded) (number : ℕ) (o : Option Recorded) → line_taken r line.number line ≡ o
+    → length r.history ≤ most_events → walk r (line ∷ lines) ≡ Err number
     → ((next : Recorded) → length next.history ≤ most_events → walk next lines ≡ Err number → AreBad next lines number) → AreBad r (line ∷ lines) number
 one_err line lines r number (Some next) is few h ih =
     let row = taken_reads r next line.number line is in
@@ -242,7 +252,8 @@ walk_err [] r number few h = absurd (not_both number r (sym h))
 walk_err (line ∷ lines) r number few h = one_err line lines r number (line_taken r line.number line) refl few h (λ next. walk_err lines next number)
 
 -- ---- what is to be walked
-pub walk_rows : (rows : List HistoryLine) (lines rest : List TextLine) (r : Recorded) → AllZip IsHistoryLine rows lines → length r.history + length (rows_events rows) ≤ most_events
+pub walk_rows : (rows : List HistoryLine) (lines rest : List TextLine) (r : Recorded) → AllZip IsHistoryLine rows lines
+    → length r.history + length (rows_events rows) ≤ most_events
     → walk r (lines ++ rest) ≡ walk (with_lines r rows lines) rest
 walk_rows [] [] rest r h few = ap (λ (x : Recorded). walk x rest) (sym (no_lines r []))
 walk_rows [] (line ∷ lines) rest r h few = absurd h

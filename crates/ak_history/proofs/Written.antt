@@ -19,7 +19,8 @@ use Rattle.ak_history.specs.Text.{with_event, history_lines, event_words, submit
 use Rattle.ak_history.proofs.Lines.{lines-stand_for}
 
 -- ---- the words of a row
-submit_are : (helper : Option ℕ) (places : List Place) (words : List (List ℕ)) → map place_word places ≡ words → map place_word (submit_places helper places) ≡ submit_words helper words
+submit_are : (helper : Option ℕ) (places : List Place) (words : List (List ℕ)) → map place_word places ≡ words
+    → map place_word (submit_places helper places) ≡ submit_words helper words
 submit_are None places words h = ap (λ (ws : List (List ℕ)). codes "general" ∷ ws) h
 submit_are (Some helper) places words h = ap (λ (ws : List (List ℕ)). codes "helper" ∷ decimal helper ∷ ws) h
 
@@ -124,7 +125,8 @@ row_plain : (row : HistoryLine) → IsWritten row → LineInRange row → IsShor
 row_plain (Idle n) written in_range short = (row_some (Idle n), (refl, ((written, short), tt)))
 row_plain (Of e) written in_range short = (row_some (Of e), in_range)
 
-rows_plain : (rows : List HistoryLine) → AllByRecursion IsWritten rows → AllByRecursion LineInRange rows → AllByRecursion IsShortRun rows → AllByRecursion IsPlainRow (map line_row rows)
+rows_plain : (rows : List HistoryLine) → AllByRecursion IsWritten rows → AllByRecursion LineInRange rows → AllByRecursion IsShortRun rows
+    → AllByRecursion IsPlainRow (map line_row rows)
 rows_plain [] written in_range short = tt
 rows_plain (row ∷ rows) written in_range short = (row_plain row written.0 in_range.0 short.0, rows_plain rows written.1 in_range.1 short.1)
 
@@ -148,7 +150,8 @@ brings_of : (row : HistoryLine) → IsWritten row → BringsSome row
 brings_of (Idle n) h = tt
 brings_of (Of e) h = h
 
-are_lines : (rows : List HistoryLine) (lines : List TextLine) → AllByRecursion IsWritten rows → AllZip IsRow (map line_row rows) lines → AllZip IsHistoryLine rows lines
+are_lines : (rows : List HistoryLine) (lines : List TextLine) → AllByRecursion IsWritten rows → AllZip IsRow (map line_row rows) lines
+    → AllZip IsHistoryLine rows lines
 are_lines [] [] written h = tt
 are_lines [] (line ∷ lines) written h = absurd h
 are_lines (row ∷ rows) [] written h = absurd h
@@ -166,7 +169,8 @@ none_skipped (row ∷ rows) (line ∷ lines) h =
 abbrev text_from : ℕ → List Event → List TextLine
 text_from first events = numbered first (lines_of (history_text events))
 
-rows_read : (first : ℕ) (events : List Event) → AllByRecursion IsPlainRow (map line_row (history_lines events)) → AllZip IsRow (map line_row (history_lines events)) (text_from first events)
+rows_read : (first : ℕ) (events : List Event) → AllByRecursion IsPlainRow (map line_row (history_lines events))
+    → AllZip IsRow (map line_row (history_lines events)) (text_from first events)
 rows_read first events plain =
     subst (λ (bytes : List ℕ). AllZip IsRow (map line_row (history_lines events)) (numbered first (lines_of bytes))) (sym (text_is (history_lines events) (all_written events)))
     (rows_from first (map line_row (history_lines events)) plain)

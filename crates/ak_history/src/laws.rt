@@ -7,14 +7,20 @@ ghost use Rattle.ak_history.specs.Text.{history_text};
 
 /// Each text is one history with one line for each event, or has one first bad line, and none is both.
 pub fn one_reading()
-    ensures history { (bytes : List ℕ) (first : ℕ) (a b : List Event) (l m : List ℕ) → HistoryReads bytes first a l → HistoryReads bytes first b m → (a ≡ b) × (l ≡ m) }
-    ensures bad_line { (bytes : List ℕ) (first : ℕ) (l m : ℕ) → IsFirstBad bytes first l → IsFirstBad bytes first m → l ≡ m }
-    ensures not_both { (bytes : List ℕ) (first : ℕ) (events : List Event) (lines : List ℕ) (number : ℕ) → HistoryReads bytes first events lines → IsFirstBad bytes first number → ⊥ }
-    ensures either { (bytes : List ℕ) (first : ℕ) → ((events : List Event) × (lines : List ℕ) × HistoryReads bytes first events lines) ⊎ ((number : ℕ) × IsFirstBad bytes first number) }
+    ensures history { (bytes : List ℕ) (first : ℕ) (a b : List Event) (l m : List ℕ)
+        → HistoryReads bytes first a l → HistoryReads bytes first b m → (a ≡ b) × (l ≡ m) }
+    ensures bad_line { (bytes : List ℕ) (first : ℕ) (l m : ℕ)
+        → IsFirstBad bytes first l → IsFirstBad bytes first m → l ≡ m }
+    ensures not_both { (bytes : List ℕ) (first : ℕ) (events : List Event) (lines : List ℕ) (number : ℕ)
+        → HistoryReads bytes first events lines → IsFirstBad bytes first number → ⊥ }
+    ensures either { (bytes : List ℕ) (first : ℕ)
+        → ((events : List Event) × (lines : List ℕ) × HistoryReads bytes first events lines)
+        ⊎ ((number : ℕ) × IsFirstBad bytes first number) }
 {}
 
 /// The text of a history is read back as that history, whatever number its first line has, where its numbers are in their ranges, no run of empty drains is
 /// longer than 1,000,000, and there are at most 16,000,000 events.
 pub fn reads_back()
-    ensures { (events : List Event) (first : ℕ) → IsReadable events → (lines : List ℕ) × HistoryReads (history_text events) first events lines }
+    ensures { (events : List Event) (first : ℕ) → IsReadable events
+        → (lines : List ℕ) × HistoryReads (history_text events) first events lines }
 {}

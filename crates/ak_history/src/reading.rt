@@ -42,7 +42,8 @@ pub struct Recorded {
 pub fn read_history(alloc: Global, bytes: &[u8], first: u32) -> Result<Recorded, HistoryRefused>
     requires { first + length bytes.now < 4294967295 }
     ensures right { IsRight bytes.now first result }
-    ensures history { (events : List AnEvent) (lines : List ℕ) → HistoryReads bytes.now first events lines → IsHistory result events lines }
+    ensures history { (events : List AnEvent) (lines : List ℕ)
+        → HistoryReads bytes.now first events lines → IsHistory result events lines }
     ensures bad_line { (number : ℕ) → IsFirstBad bytes.now first number → IsBadLine result number }
 {
     read_lines(alloc, bytes, first)

@@ -19,7 +19,8 @@ use ak_print::piece::{Piece, put_pieces};
 /// `WriteFailed`, only where the sink's count of faults rose. A beginning of the text was then taken.
 pub fn write_history<K: Sink>(h: &History, sink: &mut K) -> Result<(), WriteFailed>
     ensures { HasWritten result
-        (K.taken sink.old) (K.taken sink.new) (K.faults sink.old) (K.faults sink.new) (history_text h.now) }
+        (K.taken sink.old) (K.taken sink.new) (K.faults sink.old) (K.faults sink.new)
+        (history_text h.now) }
 {
     let mut buffer = Buffer::new();
     put_history(h, &mut buffer, sink)?;

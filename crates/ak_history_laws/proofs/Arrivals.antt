@@ -47,7 +47,8 @@ abbrev brings : ℕ → List Event → ℕ → Bool
 brings askers xs id = list_any (is_pair_of id) (flat_map pairs_in (replies askers xs))
 
 -- an event whose reply brings no work, and which drains none
-nothing_brought : (askers : ℕ) (xs : List Event) (e : Event) (id : ℕ) → flat_map pairs_in (replies_after askers xs (e ∷ [])) ≡ [] → flat_map drained_in (e ∷ []) ≡ []
+nothing_brought : (askers : ℕ) (xs : List Event) (e : Event) (id : ℕ) → flat_map pairs_in (replies_after askers xs (e ∷ [])) ≡ []
+    → flat_map drained_in (e ∷ []) ≡ []
     → brings askers xs id ≡ is_among (flat_map drained_in xs) id → brings askers (xs ++ e ∷ []) id ≡ is_among (flat_map drained_in (xs ++ e ∷ [])) id
 nothing_brought askers xs e id none drained k =
     let replied : flat_map pairs_in (replies askers (xs ++ e ∷ [])) ≡ flat_map pairs_in (replies askers xs) =
@@ -76,7 +77,8 @@ drain_brought threads askers xs ids requests id legal is k =
     ∙ ((λ i. k i || (any_pair id (filter_map (finish_in xs) ids) ∙ ap (λ l. is_among l id) these) i)
     ∙ (sym (list_any-append (λ n. n == id) (flat_map drained_in xs) ids) ∙ sym (ap (λ l. is_among l id) fetched))))
 
-one_brought : (threads askers : ℕ) (xs : List Event) (e : Event) (id : ℕ) → Legal threads askers xs → brings askers xs id ≡ is_among (flat_map drained_in xs) id → IsLegalAfter threads askers xs e
+one_brought : (threads askers : ℕ) (xs : List Event) (e : Event) (id : ℕ) → Legal threads askers xs
+    → brings askers xs id ≡ is_among (flat_map drained_in xs) id → IsLegalAfter threads askers xs e
     → brings askers (xs ++ e ∷ []) id ≡ is_among (flat_map drained_in (xs ++ e ∷ [])) id
 one_brought threads askers xs (event.Submit n work helper) id legal k is = nothing_brought askers xs (event.Submit n work helper) id refl refl k
 one_brought threads askers xs (event.Start thread n) id legal k is = nothing_brought askers xs (event.Start thread n) id refl refl k
@@ -90,7 +92,8 @@ one_brought threads askers xs (event.HelperEnd h) id legal k is = nothing_brough
 one_brought threads askers xs event.Close id legal k is = nothing_brought askers xs event.Close id refl refl k
 
 -- a reply has brought the work where a drain names it
-pub brought_is : (threads askers : ℕ) (xs : List Event) (id : ℕ) → Legal threads askers xs → list_any (is_pair_of id) (flat_map pairs_in (replies askers xs)) ≡ is_among (flat_map drained_in xs) id
+pub brought_is : (threads askers : ℕ) (xs : List Event) (id : ℕ) → Legal threads askers xs
+    → list_any (is_pair_of id) (flat_map pairs_in (replies askers xs)) ≡ is_among (flat_map drained_in xs) id
 brought_is threads askers xs id h =
     (legal_keeps threads askers (λ ys. Legal threads askers ys × (brings askers ys id ≡ is_among (flat_map drained_in ys) id)) (tt, refl)
     (λ ys e k is. (legal_next threads askers ys e k.0 is, one_brought threads askers ys e id k.0 k.1 is)) xs h).1
@@ -109,7 +112,8 @@ contains_kept p (y ∷ xs) x ok (suc k, less, e) =
     one true h = contains_more (filter p xs) y x h
     one false h = h
 
-found_at : {A : Type 0} (p : A → Bool) (xs : List A) (y x : A) (b : Bool) → p y ≡ b → (find p xs ≡ Some x → Contains xs x) → find p (y ∷ xs) ≡ Some x → Contains (y ∷ xs) x
+found_at : {A : Type 0} (p : A → Bool) (xs : List A) (y x : A) (b : Bool) → p y ≡ b → (find p xs ≡ Some x → Contains xs x) → find p (y ∷ xs) ≡ Some x
+    → Contains (y ∷ xs) x
 found_at p xs y x true is later e = (0, omega arith, some_same y x (sym (ap (λ c. cond c (Some y) (find p xs)) is) ∙ e))
 found_at p xs y x false is later e = contains_more xs y x (later (sym (ap (λ c. cond c (Some y) (find p xs)) is) ∙ e))
 
@@ -168,7 +172,8 @@ finished_values threads askers xs h =
     new ys (event.HelperEnd no') is = tt
     new ys event.Close is = tt
 
-there_by : (threads askers : ℕ) (xs : List Event) (f : ℕ × Outcome) (o : Option Handed) → Legal threads askers xs → work_at xs f.0 ≡ o → HasValue o f.1 → not (is_among (flat_map drained_in xs) f.0) ≡ true → IsThere (outstanding (asks xs) (replies askers xs)) f
+there_by : (threads askers : ℕ) (xs : List Event) (f : ℕ × Outcome) (o : Option Handed) → Legal threads askers xs → work_at xs f.0 ≡ o
+    → HasValue o f.1 → not (is_among (flat_map drained_in xs) f.0) ≡ true → IsThere (outstanding (asks xs) (replies askers xs)) f
 there_by threads askers xs f None legal e v out = absurd v
 there_by threads askers xs f (Some w) legal e v out =
     let id : w.id ≡ f.0 = eqb-true w.id f.0 (find_passes (λ (x : Handed). x.id == f.0) (handed xs) w e) in

@@ -33,7 +33,8 @@ zip_last [] (z ∷ ys) x y e = absurd (omega (arith, e))
 zip_last (z ∷ xs) [] x y e = absurd (omega (arith, e))
 zip_last (z ∷ xs) (w ∷ ys) x y e = ap (λ l. (z, w) ∷ l) (zip_last xs ys x y (omega (arith, e)))
 
-active_next : (asked : List Ask) (rs : List Reply) (a : Ask) (r : Reply) → length asked ≡ length rs → active_helpers (asked ++ a ∷ []) (rs ++ r ∷ []) ≡ helped_by (active_helpers asked rs) a r
+active_next : (asked : List Ask) (rs : List Reply) (a : Ask) (r : Reply) → length asked ≡ length rs
+    → active_helpers (asked ++ a ∷ []) (rs ++ r ∷ []) ≡ helped_by (active_helpers asked rs) a r
 active_next asked rs a r e = ap (fold helped []) (zip_last asked rs a r e) ∙ fold-append helped [] (zip asked rs) ((a, r) ∷ [])
 
 gone : (c x : Bool) → (x && not c) ≡ ((c || x) && not c)
@@ -45,7 +46,9 @@ stays true true x f = absurd (f refl refl)
 stays true false x f = refl
 stays false c x f = refl
 
-one_kept : (h n k : ℕ) (ks : List ℕ) (b : Bool) → (k == n) ≡ b → list_any (is_number h) (filter (is_other_helper n) ks) ≡ (list_any (is_number h) ks && not (n == h)) → list_any (is_number h) (cond (not b) (k ∷ filter (is_other_helper n) ks) (filter (is_other_helper n) ks)) ≡ (((k == h) || list_any (is_number h) ks) && not (n == h))
+one_kept : (h n k : ℕ) (ks : List ℕ) (b : Bool) → (k == n) ≡ b
+    → list_any (is_number h) (filter (is_other_helper n) ks) ≡ (list_any (is_number h) ks && not (n == h))
+    → list_any (is_number h) (cond (not b) (k ∷ filter (is_other_helper n) ks) (filter (is_other_helper n) ks)) ≡ (((k == h) || list_any (is_number h) ks) && not (n == h))
 one_kept h n k ks true is later =
     later ∙ (gone (n == h) (list_any (is_number h) ks) ∙ ap (λ m. ((m == h) || list_any (is_number h) ks) && not (n == h)) (sym (eqb-true k n is)))
 one_kept h n k ks false is later =
@@ -74,11 +77,13 @@ ends false e c = refl
 abbrev names : ℕ → Reserved → Bool
 names h r = r.helper == h
 
-active_parts : (xs : List Event) (e : Event) (h : ℕ) → is_active (xs ++ e ∷ []) h ≡ (list_any (names h) (filter_map reserved_in xs ++ filter_map reserved_in (e ∷ [])) && not (is_among (filter_map ended_in xs ++ filter_map ended_in (e ∷ [])) h))
+active_parts : (xs : List Event) (e : Event) (h : ℕ)
+    → is_active (xs ++ e ∷ []) h ≡ (list_any (names h) (filter_map reserved_in xs ++ filter_map reserved_in (e ∷ [])) && not (is_among (filter_map ended_in xs ++ filter_map ended_in (e ∷ [])) h))
 active_parts xs e h = λ i. list_any (names h) (filter_map-append reserved_in xs (e ∷ []) i) && not (is_among (filter_map-append ended_in xs (e ∷ []) i) h)
 
 -- an event that is no helper's leaves which are active
-active_same : (xs : List Event) (e : Event) (h : ℕ) → filter_map reserved_in (e ∷ []) ≡ [] → filter_map ended_in (e ∷ []) ≡ [] → is_active (xs ++ e ∷ []) h ≡ is_active xs h
+active_same : (xs : List Event) (e : Event) (h : ℕ) → filter_map reserved_in (e ∷ []) ≡ [] → filter_map ended_in (e ∷ []) ≡ []
+    → is_active (xs ++ e ∷ []) h ≡ is_active xs h
 active_same xs e h g k =
     active_parts xs e h
     ∙ (λ i. list_any (names h) ((ap (λ l. filter_map reserved_in xs ++ l) g ∙ append-nil (filter_map reserved_in xs)) i) && not (is_among ((ap (λ l. filter_map ended_in xs ++ l) k ∙ append-nil (filter_map ended_in xs)) i) h))
@@ -89,13 +94,17 @@ pub record Alike (threads askers : ℕ) (xs : List Event) : Type 0 where
   pub active : (h : ℕ) → list_any (is_number h) (active_helpers (asks xs) (replies askers xs)) ≡ is_active xs h
 
 -- a new helper was not ended before
-not_ended : (threads askers : ℕ) (xs : List Event) (n : ℕ) → Legal threads askers xs → n ≡ count_by is_helper_new xs → is_among (filter_map ended_in xs) n ≡ false
+not_ended : (threads askers : ℕ) (xs : List Event) (n : ℕ) → Legal threads askers xs → n ≡ count_by is_helper_new xs
+    → is_among (filter_map ended_in xs) n ≡ false
 not_ended threads askers xs n h is =
     none_any (λ k. k == n) (filter_map ended_in xs)
     (each_map (λ k. k < count_by is_helper_new xs) (λ k. (k == n) ≡ false) (λ k less. ne_eqb k n (λ e. absurd (omega (arith, e, less, is)))) (filter_map ended_in xs) (left_by threads askers xs h).stands.ended_known)
 
 -- a call and its reply
-called : (threads askers : ℕ) (xs : List Event) (e : Event) (a : Ask) (r : Reply) → Alike threads askers xs → IsLegalAfter threads askers xs e → asks (e ∷ []) ≡ a ∷ [] → replies_after askers xs (e ∷ []) ≡ r ∷ [] → ((h : ℕ) → list_any (is_number h) (helped_by (active_helpers (asks xs) (replies askers xs)) a r) ≡ is_active (xs ++ e ∷ []) h) → Alike threads askers (xs ++ e ∷ [])
+called : (threads askers : ℕ) (xs : List Event) (e : Event) (a : Ask) (r : Reply) → Alike threads askers xs → IsLegalAfter threads askers xs e
+    → asks (e ∷ []) ≡ a ∷ [] → replies_after askers xs (e ∷ []) ≡ r ∷ []
+    → ((h : ℕ) → list_any (is_number h) (helped_by (active_helpers (asks xs) (replies askers xs)) a r) ≡ is_active (xs ++ e ∷ []) h)
+    → Alike threads askers (xs ++ e ∷ [])
 called threads askers xs e a r k is ask reply goes =
     let asked : asks (xs ++ e ∷ []) ≡ asks xs ++ a ∷ [] = filter_map-append ask_of xs (e ∷ []) ∙ ap (λ l. asks xs ++ l) ask in
     let replied : replies askers (xs ++ e ∷ []) ≡ replies askers xs ++ r ∷ [] = replies_more askers xs (e ∷ []) ∙ ap (λ l. replies askers xs ++ l) reply in
@@ -106,7 +115,9 @@ called threads askers xs e a r k is ask reply goes =
     }
 
 -- an event of a thread or an asker
-uncalled : (threads askers : ℕ) (xs : List Event) (e : Event) → Alike threads askers xs → IsLegalAfter threads askers xs e → asks (e ∷ []) ≡ [] → replies_after askers xs (e ∷ []) ≡ [] → filter_map reserved_in (e ∷ []) ≡ [] → filter_map ended_in (e ∷ []) ≡ [] → Alike threads askers (xs ++ e ∷ [])
+uncalled : (threads askers : ℕ) (xs : List Event) (e : Event) → Alike threads askers xs → IsLegalAfter threads askers xs e → asks (e ∷ []) ≡ []
+    → replies_after askers xs (e ∷ []) ≡ [] → filter_map reserved_in (e ∷ []) ≡ [] → filter_map ended_in (e ∷ []) ≡ []
+    → Alike threads askers (xs ++ e ∷ [])
 uncalled threads askers xs e k is ask reply g d =
     let asked : asks (xs ++ e ∷ []) ≡ asks xs = filter_map-append ask_of xs (e ∷ []) ∙ (ap (λ l. asks xs ++ l) ask ∙ append-nil (asks xs)) in
     let replied : replies askers (xs ++ e ∷ []) ≡ replies askers xs = replies_more askers xs (e ∷ []) ∙ (ap (λ l. replies askers xs ++ l) reply ∙ append-nil (replies askers xs)) in
@@ -158,7 +169,8 @@ one_more threads askers xs event.Close k is =
 pub alike : (threads askers : ℕ) (xs : List Event) → Legal threads askers xs → Alike threads askers xs
 alike threads askers xs h = legal_keeps threads askers (Alike threads askers) (record { legal = tt; same = refl; active = λ h. refl }) (λ ys e k is. one_more threads askers ys e k is) xs h
 
-pub served_alike : (threads askers : ℕ) (xs : List Event) (helper : Option ℕ) → Legal threads askers xs → IsServedBy (asks xs) (replies askers xs) helper → IsServed xs helper
+pub served_alike : (threads askers : ℕ) (xs : List Event) (helper : Option ℕ) → Legal threads askers xs
+    → IsServedBy (asks xs) (replies askers xs) helper → IsServed xs helper
 served_alike threads askers xs None h is = tt
 served_alike threads askers xs (Some n) h is = sym ((alike threads askers xs h).active n) ∙ is
 

@@ -15,18 +15,23 @@ use Rattle.ak_pool.proofs.Legality.{legal_fits}
 use Rattle.ak_pool.proofs.Noting.{stands_next}
 
 -- the events behind some of a legal list
-pub legal_behind : (threads askers : ℕ) (before xs ys : List Event) → AreLegalAfter threads askers before (xs ++ ys) → AreLegalAfter threads askers (before ++ xs) ys
+pub legal_behind : (threads askers : ℕ) (before xs ys : List Event) → AreLegalAfter threads askers before (xs ++ ys)
+    → AreLegalAfter threads askers (before ++ xs) ys
 legal_behind threads askers before [] ys h = rw append-nil h
 legal_behind threads askers before (x ∷ xs) ys h =
     subst (λ l. AreLegalAfter threads askers l ys) (append_assoc before (x ∷ []) xs) (legal_behind threads askers (before ++ x ∷ []) xs ys h.1)
 
-keeps_from : (threads askers : ℕ) (P : List Event → Type 0) → ((xs : List Event) (e : Event) → P xs → IsLegalAfter threads askers xs e → P (xs ++ e ∷ [])) → (before ys : List Event) → P before → AreLegalAfter threads askers before ys → P (before ++ ys)
+keeps_from : (threads askers : ℕ) (P : List Event → Type 0)
+    → ((xs : List Event) (e : Event) → P xs → IsLegalAfter threads askers xs e → P (xs ++ e ∷ [])) → (before ys : List Event) → P before
+    → AreLegalAfter threads askers before ys → P (before ++ ys)
 keeps_from threads askers P step before [] start h = rw append-nil start
 keeps_from threads askers P step before (y ∷ ys) start h =
     subst P (append_assoc before (y ∷ []) ys) (keeps_from threads askers P step (before ++ y ∷ []) ys (step before y start h.0) h.1)
 
 -- what holds at the start and is kept by each legal event holds of each legal history
-pub legal_keeps : (threads askers : ℕ) (P : List Event → Type 0) → P [] → ((xs : List Event) (e : Event) → P xs → IsLegalAfter threads askers xs e → P (xs ++ e ∷ [])) → (history : List Event) → Legal threads askers history → P history
+pub legal_keeps : (threads askers : ℕ) (P : List Event → Type 0) → P []
+    → ((xs : List Event) (e : Event) → P xs → IsLegalAfter threads askers xs e → P (xs ++ e ∷ [])) → (history : List Event)
+    → Legal threads askers history → P history
 legal_keeps threads askers P start step history h = keeps_from threads askers P step [] history start h
 
 -- what a legal history leaves

@@ -73,7 +73,8 @@ pub each_finished : (P : ℕ → Type 0) (fs : List (ℕ × Outcome)) (id : ℕ)
 each_finished P [] id h some = absurd (cc (some))
 each_finished P (f ∷ fs) id h some = one (f.0 == id) refl some (λ k. each_finished P fs id h.1 k)
   where
-    one : (b : Bool) → (f.0 == id) ≡ b → (b || list_any (λ (g : ℕ × Outcome). g.0 == id) fs) ≡ true → (list_any (λ (g : ℕ × Outcome). g.0 == id) fs ≡ true → P id) → P id
+    one : (b : Bool) → (f.0 == id) ≡ b → (b || list_any (λ (g : ℕ × Outcome). g.0 == id) fs) ≡ true
+        → (list_any (λ (g : ℕ × Outcome). g.0 == id) fs ≡ true → P id) → P id
     one true is some later = subst P (eqb-true f.0 id is) h.0
     one false is some later = later some
 
@@ -85,7 +86,8 @@ none_kept : {A : Type 0} (p : A → Bool) (xs : List A) → filter p xs ≡ [] �
 none_kept p [] e = tt
 none_kept {A} p (x ∷ xs) e = one (p x) refl e (λ k. none_kept p xs k)
   where
-    one : (b : Bool) → p x ≡ b → cond b (x ∷ filter p xs) (filter p xs) ≡ [] → (filter p xs ≡ [] → AllByRecursion (λ y. p y ≡ false) xs) → (p x ≡ false) × AllByRecursion (λ y. p y ≡ false) xs
+    one : (b : Bool) → p x ≡ b → cond b (x ∷ filter p xs) (filter p xs) ≡ [] → (filter p xs ≡ [] → AllByRecursion (λ y. p y ≡ false) xs)
+        → (p x ≡ false) × AllByRecursion (λ y. p y ≡ false) xs
     one true is e later = absurd (cc (e))
     one false is e later = (is, later e)
 
@@ -102,7 +104,8 @@ once_begun threads askers xs h w came =
     let least : 1 ≤ starts_of xs w.id = count_some (λ (b : Begun). b.id == w.id) (begun xs) started in
     omega (arith, least, at_most_once threads askers xs h w.id)
 
-pub start_once : (threads askers : ℕ) (trace : List Entry) (xs : List Event) → Legal threads askers xs → ((before : List Entry) → trace ≡ before ++ entry.End ending.Idle ∷ [] → outstanding (asks xs) (replies askers xs) ≡ []) → StartOnce trace xs
+pub start_once : (threads askers : ℕ) (trace : List Entry) (xs : List Event) → Legal threads askers xs
+    → ((before : List Entry) → trace ≡ before ++ entry.End ending.Idle ∷ [] → outstanding (asks xs) (replies askers xs) ≡ []) → StartOnce trace xs
 start_once threads askers trace xs h idle = record {
   at_most = at_most_once threads askers xs h;
   exactly = λ before ends.

@@ -20,7 +20,8 @@ use Rattle.ak_history_laws.proofs.Arrivals.{handed_alike, brought_is}
 use Rattle.ak_history_laws.proofs.Once.{each_among, each_finished}
 
 -- the next work was not drained before it was handed in
-not_drained : (threads askers : ℕ) (xs : List Event) (id : ℕ) (work : Work) (helper : Option ℕ) → Legal threads askers xs → IsLegalAfter threads askers xs (event.Submit id work helper) → is_among (flat_map drained_in xs) id ≡ false
+not_drained : (threads askers : ℕ) (xs : List Event) (id : ℕ) (work : Work) (helper : Option ℕ) → Legal threads askers xs
+    → IsLegalAfter threads askers xs (event.Submit id work helper) → is_among (flat_map drained_in xs) id ≡ false
 not_drained threads askers xs id work helper h is =
     let st = (left_by threads askers xs h).stands in
     let fresh : is_begun xs id ≡ false = fresh_unbegun (handed xs) (filter_map reserved_in xs) (begun xs) id st.numbered (omega (arith, is.rule.0, st.handed_all)) st.begun_once in
@@ -35,7 +36,9 @@ some_last [] x = λ e. absurd (cc e)
 some_last (y ∷ xs) x = λ e. absurd (cc e)
 
 -- a work is out once it is handed in
-pub out_now : (threads askers : ℕ) (xs : List Event) (id : ℕ) (work : Work) (helper : Option ℕ) → Legal threads askers xs → IsLegalAfter threads askers xs (event.Submit id work helper) → outstanding (asks (xs ++ event.Submit id work helper ∷ [])) (replies askers (xs ++ event.Submit id work helper ∷ [])) ≢ []
+pub out_now : (threads askers : ℕ) (xs : List Event) (id : ℕ) (work : Work) (helper : Option ℕ) → Legal threads askers xs
+    → IsLegalAfter threads askers xs (event.Submit id work helper)
+    → outstanding (asks (xs ++ event.Submit id work helper ∷ [])) (replies askers (xs ++ event.Submit id work helper ∷ [])) ≢ []
 out_now threads askers xs id work helper h is =
     let all = xs ++ event.Submit id work helper ∷ [] in
     let w : Handed = record { id = id; work = work; helper = helper } in

@@ -40,7 +40,8 @@ no_replies askers before (event.HelperEnd no' ∷ ys) h = absurd h.0
 no_replies askers before (event.Close ∷ ys) h = absurd h.0
 
 -- behind what the scheduler has seen stand no calls and no replies
-pub calls_behind : (askers : ℕ) (seen whole : List Event) → Behind IsNotByScheduler seen whole → (asks whole ≡ asks seen) × (replies askers whole ≡ replies askers seen)
+pub calls_behind : (askers : ℕ) (seen whole : List Event) → Behind IsNotByScheduler seen whole
+    → (asks whole ≡ asks seen) × (replies askers whole ≡ replies askers seen)
 calls_behind askers seen whole b = (
   ap asks b.whole_is ∙ asks_stay seen b.rest b.others,
   ap (replies askers) b.whole_is
@@ -86,7 +87,8 @@ some_pairs xs some =
     (sym (map_filter (λ id. not (is_among (flat_map drained_in xs) id)) (finished xs)) ∙ ap (map (λ (f : ℕ × Outcome). f.0)) none)
 
 -- the reply to a drain of what is owed and of what was not fetched
-pub reply_then : (threads askers : ℕ) (xs : List Event) → Legal threads askers xs → replies_after askers xs (event.Drain (owed xs) (unfetched xs) ∷ []) ≡ Drained (brought askers xs) ∷ []
+pub reply_then : (threads askers : ℕ) (xs : List Event) → Legal threads askers xs
+    → replies_after askers xs (event.Drain (owed xs) (unfetched xs) ∷ []) ≡ Drained (brought askers xs) ∷ []
 reply_then threads askers xs legal = ap (λ a. Drained a ∷ []) (drain_reply threads askers xs legal)
 
 -- where the last call is the close, a close has happened

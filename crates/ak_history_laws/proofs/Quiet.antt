@@ -80,7 +80,8 @@ more_quiet asked rs k none zero = record {
   left = fold-append left_by 0 asked rs ∙ (ap (λ n. fold left_by n rs) k.left ∙ zero);
 }
 
-one_quiet : (threads : ℕ) (xs : List Event) (e : Event) → Legal threads 0 xs → IsLegalAfter threads 0 xs e → (flat_map requests_in (replies_after 0 xs (e ∷ [])) ≡ []) × (fold left_by 0 (replies_after 0 xs (e ∷ [])) ≡ 0)
+one_quiet : (threads : ℕ) (xs : List Event) (e : Event) → Legal threads 0 xs → IsLegalAfter threads 0 xs e
+    → (flat_map requests_in (replies_after 0 xs (e ∷ [])) ≡ []) × (fold left_by 0 (replies_after 0 xs (e ∷ [])) ≡ 0)
 one_quiet threads xs (event.Submit id work helper) legal is = (refl, refl)
 one_quiet threads xs (event.Start thread id) legal is = (refl, refl)
 one_quiet threads xs (event.Finish thread id outcome) legal is = (refl, refl)

@@ -41,7 +41,8 @@ pub drained_done : (threads askers : ℕ) (xs : List Event) → Legal threads as
 drained_done threads askers xs h = (left_by threads askers xs h).stands.finished_first
 
 -- the replies to the calls of some events and of others behind them
-pub replies_append : (askers : ℕ) (before xs ys : List Event) → replies_after askers before (xs ++ ys) ≡ replies_after askers before xs ++ replies_after askers (before ++ xs) ys
+pub replies_append : (askers : ℕ) (before xs ys : List Event)
+    → replies_after askers before (xs ++ ys) ≡ replies_after askers before xs ++ replies_after askers (before ++ xs) ys
 replies_append askers before [] ys = ap (λ l. replies_after askers l ys) (sym (append-nil before))
 replies_append askers before (x ∷ xs) ys =
     ap (reply_before (reply_in askers before x)) (replies_append askers (before ++ x ∷ []) xs ys)
@@ -80,7 +81,9 @@ found_last fs f h k =
     (find_last (λ g. g.0 == f.0) fs f (none_found (λ g. g.0 == f.0) fs k) (eq-eqb f.0 f.0 refl), tt)
 
 -- a law of the finished works, kept by each finish
-of_finished : (threads askers : ℕ) (P : List (ℕ × Outcome) → Type 0) → P [] → ((fs : List (ℕ × Outcome)) (f : ℕ × Outcome) → P fs → list_any (λ g. g.0 == f.0) fs ≡ false → P (fs ++ f ∷ [])) → (history : List Event) → Legal threads askers history → P (finished history)
+of_finished : (threads askers : ℕ) (P : List (ℕ × Outcome) → Type 0) → P []
+    → ((fs : List (ℕ × Outcome)) (f : ℕ × Outcome) → P fs → list_any (λ g. g.0 == f.0) fs ≡ false → P (fs ++ f ∷ [])) → (history : List Event)
+    → Legal threads askers history → P (finished history)
 of_finished threads askers P start step history h =
     legal_keeps threads askers (λ xs. P (finished xs)) start (λ xs e k is. subst P (sym (finished_append xs (e ∷ []))) (one xs e k is)) history h
   where
@@ -103,7 +106,8 @@ pub finished_apart : (threads askers : ℕ) (xs : List Event) → Legal threads 
 finished_apart threads askers xs h =
     of_finished threads askers AreApart tt (λ fs f k none. apart_last fs f k (any_none (λ g. g.0 == f.0) fs none)) xs h
 
-found_again : (fs gs : List (ℕ × Outcome)) → Each (λ f. find (λ g. g.0 == f.0) fs ≡ Some f) gs → filter_map (λ id. find (λ (g : ℕ × Outcome). g.0 == id) fs) (map (λ (f : ℕ × Outcome). f.0) gs) ≡ gs
+found_again : (fs gs : List (ℕ × Outcome)) → Each (λ f. find (λ g. g.0 == f.0) fs ≡ Some f) gs
+    → filter_map (λ id. find (λ (g : ℕ × Outcome). g.0 == id) fs) (map (λ (f : ℕ × Outcome). f.0) gs) ≡ gs
 found_again fs [] h = refl
 found_again fs (g ∷ gs) h =
     ap (λ o. cons_option o (filter_map (λ id. find (λ (f : ℕ × Outcome). f.0 == id) fs) (map (λ (f : ℕ × Outcome). f.0) gs))) h.0
@@ -128,7 +132,8 @@ request_found (r ∷ made) all h =
     ∙ ap (λ l. asked_pair r ∷ l) (request_found made all h.1)
 
 -- each request is found under its number
-asked_found : (askers : ℕ) (xs : List Event) (s : RequestsState) → AskersStand askers (request_facts xs) s → Each (λ r. find (λ (x : Asking). x.no == r.no) (asked xs) ≡ Some r) (asked xs)
+asked_found : (askers : ℕ) (xs : List Event) (s : RequestsState) → AskersStand askers (request_facts xs) s
+    → Each (λ r. find (λ (x : Asking). x.no == r.no) (asked xs) ≡ Some r) (asked xs)
 asked_found askers xs s st =
     subst (λ l. Each (λ r. find (λ (x : Asking). x.no == r.no) l ≡ Some r) l) (sym st.asked)
     (each_at (λ r. find (λ (x : Asking). x.no == r.no) (map asking_of s.made) ≡ Some r) (map asking_of s.made) (asking_of no_request) (λ q lt. here q (omega (arith, lt, length-map s.made asking_of))))

@@ -67,7 +67,8 @@ pub answered_stays : (xs ys : List Event) (q : ℕ) → is_answered xs q ≡ tru
 answered_stays xs ys q h =
     ap (list_any (λ (x : ℕ × ℤ). x.0 == q)) (filter_map-append _ xs ys) ∙ any_more (λ (x : ℕ × ℤ). x.0 == q) (answers xs) (answers ys) h
 
-all_still : (xs ys : List Event) (rs : List Asking) → list_all (λ (r : Asking). is_answered xs r.no) rs ≡ true → list_all (λ (r : Asking). is_answered (xs ++ ys) r.no) rs ≡ true
+all_still : (xs ys : List Event) (rs : List Asking) → list_all (λ (r : Asking). is_answered xs r.no) rs ≡ true
+    → list_all (λ (r : Asking). is_answered (xs ++ ys) r.no) rs ≡ true
 all_still xs ys [] h = refl
 all_still xs ys (r ∷ rs) h = one (is_answered xs r.no) refl h (all_still xs ys rs)
   where
@@ -116,17 +117,20 @@ same_numbers threads askers xs h =
 abbrev brought_numbers : ℕ → List Event → List ℕ
 brought_numbers askers xs = map (λ (r : ℕ × ℤ). r.0) (came (replies askers xs))
 
-came_more : (askers : ℕ) (xs : List Event) (e : Event) → brought_numbers askers (xs ++ e ∷ []) ≡ brought_numbers askers xs ++ map (λ (r : ℕ × ℤ). r.0) (flat_map requests_in (replies_after askers xs (e ∷ [])))
+came_more : (askers : ℕ) (xs : List Event) (e : Event)
+    → brought_numbers askers (xs ++ e ∷ []) ≡ brought_numbers askers xs ++ map (λ (r : ℕ × ℤ). r.0) (flat_map requests_in (replies_after askers xs (e ∷ [])))
 came_more askers xs e =
     ap (λ l. map (λ (r : ℕ × ℤ). r.0) (came l)) (replies_more askers xs (e ∷ []))
     ∙ (ap (map (λ (r : ℕ × ℤ). r.0)) (flat_map-append requests_in (replies askers xs) (replies_after askers xs (e ∷ [])))
     ∙ map-append (λ (r : ℕ × ℤ). r.0) (came (replies askers xs)) (flat_map requests_in (replies_after askers xs (e ∷ []))))
 
-none_came : (askers : ℕ) (xs : List Event) (e : Event) → map (λ (r : ℕ × ℤ). r.0) (flat_map requests_in (replies_after askers xs (e ∷ []))) ≡ flat_map fetched_in (e ∷ [])
+none_came : (askers : ℕ) (xs : List Event) (e : Event)
+    → map (λ (r : ℕ × ℤ). r.0) (flat_map requests_in (replies_after askers xs (e ∷ []))) ≡ flat_map fetched_in (e ∷ [])
     → brought_numbers askers xs ≡ flat_map fetched_in xs → brought_numbers askers (xs ++ e ∷ []) ≡ flat_map fetched_in (xs ++ e ∷ [])
 none_came askers xs e same k = came_more askers xs e ∙ ((λ i. k i ++ same i) ∙ sym (flat_map-append fetched_in xs (e ∷ [])))
 
-one_came : (threads askers : ℕ) (xs : List Event) (e : Event) → Legal threads askers xs → IsLegalAfter threads askers xs e → brought_numbers askers xs ≡ flat_map fetched_in xs
+one_came : (threads askers : ℕ) (xs : List Event) (e : Event) → Legal threads askers xs → IsLegalAfter threads askers xs e
+    → brought_numbers askers xs ≡ flat_map fetched_in xs
     → brought_numbers askers (xs ++ e ∷ []) ≡ flat_map fetched_in (xs ++ e ∷ [])
 one_came threads askers xs (event.Submit id work helper) legal is k = none_came askers xs (event.Submit id work helper) refl k
 one_came threads askers xs (event.Start thread id) legal is k = none_came askers xs (event.Start thread id) refl k
@@ -180,7 +184,8 @@ contains_any [] q h = absurd (omega (arith, h.1))
 contains_any (n ∷ ns) q (zero, less, e) = ap (λ b. b || is_among ns q) (eq-eqb n q e)
 contains_any (n ∷ ns) q (suc k, less, e) = or_last (n == q) (is_among ns q) (contains_any ns q (k, omega (arith, less), e))
 
-among_left : (p : ℕ × ℤ → Bool) (g : ℕ → Bool) (rs : List (ℕ × ℤ)) (q : ℕ) → ((r : ℕ × ℤ) → p r ≡ not (g r.0)) → is_among (map (λ (r : ℕ × ℤ). r.0) (filter p rs)) q ≡ true
+among_left : (p : ℕ × ℤ → Bool) (g : ℕ → Bool) (rs : List (ℕ × ℤ)) (q : ℕ) → ((r : ℕ × ℤ) → p r ≡ not (g r.0))
+    → is_among (map (λ (r : ℕ × ℤ). r.0) (filter p rs)) q ≡ true
     → (is_among (map (λ (r : ℕ × ℤ). r.0) rs) q ≡ true) × (g q ≡ false)
 among_left p g [] q same h = absurd (cc h)
 among_left p g (r ∷ rs) q same h = one (g r.0) refl (r.0 == q) refl h (λ k. among_left p g rs q same k)
@@ -203,7 +208,8 @@ among_left p g (r ∷ rs) q same h = one (g r.0) refl (r.0 == q) refl h (λ k. a
         (or_last (r.0 == q) rest k.0, k.1)
 
 -- LAW. What a port may answer was fetched and is not answered.
-pub answerable : (threads askers : ℕ) (xs : List Event) (q : ℕ) → Legal threads askers xs → IsAnswerable (asks xs) (replies askers xs) q → (is_fetched xs q ≡ true) × (is_answered xs q ≡ false)
+pub answerable : (threads askers : ℕ) (xs : List Event) (q : ℕ) → Legal threads askers xs → IsAnswerable (asks xs) (replies askers xs) q
+    → (is_fetched xs q ≡ true) × (is_answered xs q ≡ false)
 answerable threads askers xs q legal h =
     let k = among_left (is_unanswered (asks xs)) (is_answered xs) (came (replies askers xs)) q (unanswered_is xs) (contains_any (map (λ (r : ℕ × ℤ). r.0) (unanswered (asks xs) (replies askers xs))) q h) in
     (sym (ap (λ l. is_among l q) (came_is threads askers xs legal)) ∙ k.0, k.1)
@@ -214,10 +220,12 @@ record IsTold (askers : ℕ) (f : RequestFacts) (told : ℕ) : Type 0 where
   pub low : askers - length f.left ≤ told
   pub untold : f.untold ≡ true → askers - length f.left < told
 
-said_more : (askers : ℕ) (xs : List Event) (e : Event) → left_after askers (replies askers (xs ++ e ∷ [])) ≡ fold left_by_reply (left_after askers (replies askers xs)) (replies_after askers xs (e ∷ []))
+said_more : (askers : ℕ) (xs : List Event) (e : Event)
+    → left_after askers (replies askers (xs ++ e ∷ [])) ≡ fold left_by_reply (left_after askers (replies askers xs)) (replies_after askers xs (e ∷ []))
 said_more askers xs e = ap (fold left_by_reply askers) (replies_more askers xs (e ∷ [])) ∙ fold-append left_by_reply askers (replies askers xs) (replies_after askers xs (e ∷ []))
 
-one_told : (threads askers : ℕ) (xs : List Event) (e : Event) (told : ℕ) → Legal threads askers xs → IsLegalAfter threads askers xs e → IsTold askers (request_facts xs) told
+one_told : (threads askers : ℕ) (xs : List Event) (e : Event) (told : ℕ) → Legal threads askers xs → IsLegalAfter threads askers xs e
+    → IsTold askers (request_facts xs) told
     → IsTold askers (request_added e (request_facts xs)) (fold left_by_reply told (replies_after askers xs (e ∷ [])))
 one_told threads askers xs (event.Submit id work helper) told legal is k = k
 one_told threads askers xs (event.Start thread id) told legal is k = k
@@ -259,7 +267,8 @@ pub comes : (threads askers : ℕ) (xs : List Event) → Legal threads askers xs
 comes threads askers xs legal e =
     of (one_of_three (not (is_empty_list (owed xs))) (not (is_empty_list (unfetched xs))) (has_untold_end xs) e)
   where
-    of : (not (is_empty_list (owed xs)) ≡ true) ⊎ ((not (is_empty_list (unfetched xs)) ≡ true) ⊎ (has_untold_end xs ≡ true)) → HasCome askers (replies askers xs) (brought askers xs)
+    of : (not (is_empty_list (owed xs)) ≡ true) ⊎ ((not (is_empty_list (unfetched xs)) ≡ true) ⊎ (has_untold_end xs ≡ true))
+        → HasCome askers (replies askers xs) (brought askers xs)
     of (inl works) = inl (some_pairs xs (some_if (owed xs) works))
     of (inr (inl requests)) =
         inr (inl (λ none. some_if (unfetched xs) requests (sym (same_numbers threads askers xs legal) ∙ ap (map (λ (r : ℕ × ℤ). r.0)) none)))
@@ -274,7 +283,8 @@ count_mapped p g [] = refl
 count_mapped p g (x ∷ xs) =
     omega (arith, count_cons p (g x) (map g xs), count_cons (λ y. p (g y)) x xs, count_mapped p g xs)
 
-count_same : {A : Type 0} (p q : A → Bool) (xs : List A) (d : A) → ((i : ℕ) → i < length xs → p (get_or xs i d) ≡ q (get_or xs i d)) → count_by p xs ≡ count_by q xs
+count_same : {A : Type 0} (p q : A → Bool) (xs : List A) (d : A) → ((i : ℕ) → i < length xs → p (get_or xs i d) ≡ q (get_or xs i d))
+    → count_by p xs ≡ count_by q xs
 count_same p q [] d h = refl
 count_same p q (x ∷ xs) d h =
     omega (arith, count_cons p x xs, count_cons q x xs, ap bit (h 0 (omega arith)), count_same p q xs d (λ i lt. h (suc i) (omega arith)))
@@ -284,7 +294,8 @@ bit_less true b h = omega (arith, ap bit (h refl))
 bit_less false true h = omega arith
 bit_less false false h = omega arith
 
-count_less : {A : Type 0} (p q : A → Bool) (xs : List A) (d : A) → ((i : ℕ) → i < length xs → p (get_or xs i d) ≡ true → q (get_or xs i d) ≡ true) → count_by p xs ≤ count_by q xs
+count_less : {A : Type 0} (p q : A → Bool) (xs : List A) (d : A) → ((i : ℕ) → i < length xs → p (get_or xs i d) ≡ true → q (get_or xs i d) ≡ true)
+    → count_by p xs ≤ count_by q xs
 count_less p q [] d h = omega arith
 count_less p q (x ∷ xs) d h =
     omega (arith, count_cons p x xs, count_cons q x xs, bit_less (p x) (q x) (h 0 (omega arith)), count_less p q xs d (λ i lt. h (suc i) (omega arith)))

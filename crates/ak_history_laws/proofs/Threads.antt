@@ -44,7 +44,8 @@ one_less true false d' more h = absurd (cc h)
 one_less false d d' more h = refl
 
 -- with more finished, a thread runs no more
-runs_less : (t : ℕ) (done done' : ℕ → Bool) → ((id : ℕ) → done id ≡ true → done' id ≡ true) → (bs : List Begun) → runs_of t done bs ≡ false → runs_of t done' bs ≡ false
+runs_less : (t : ℕ) (done done' : ℕ → Bool) → ((id : ℕ) → done id ≡ true → done' id ≡ true) → (bs : List Begun) → runs_of t done bs ≡ false
+    → runs_of t done' bs ≡ false
 runs_less t done done' more [] h = refl
 runs_less t done done' more (b ∷ bs) h =
     let k = or_parts (b.thread == t && not (done b.id)) (runs_of t done bs) h in
@@ -64,7 +65,8 @@ runs_none t done (event.HelperNew no' answer ∷ ys) h = runs_none t done ys h.1
 runs_none t done (event.HelperEnd no' ∷ ys) h = runs_none t done ys h.1
 runs_none t done (event.Close ∷ ys) h = runs_none t done ys h.1
 
-runs_append : (t : ℕ) (done : ℕ → Bool) (xs ys : List Event) → runs_of t done (begun xs) ≡ false → runs_of t done (begun ys) ≡ false → runs_of t done (begun (xs ++ ys)) ≡ false
+runs_append : (t : ℕ) (done : ℕ → Bool) (xs ys : List Event) → runs_of t done (begun xs) ≡ false → runs_of t done (begun ys) ≡ false
+    → runs_of t done (begun (xs ++ ys)) ≡ false
 runs_append t done xs ys h k =
     ap (runs_of t done) (begun_append xs ys)
     ∙ (list_any-append (λ (b : Begun). b.thread == t && not (done b.id)) (begun xs) (begun ys) ∙ or_both (runs_of t done (begun xs)) (runs_of t done (begun ys)) h k)
@@ -144,7 +146,8 @@ finishes_of threads askers history h =
     history h
 
 -- a work that a thread began is found with it
-found_begun : (threads askers : ℕ) (history : List Event) (t id : ℕ) → Legal threads askers history → was_begun t id (begun history) ≡ true → find (λ (b : Begun). b.id == id) (begun history) ≡ Some (record { thread = t; id = id })
+found_begun : (threads askers : ℕ) (history : List Event) (t id : ℕ) → Legal threads askers history → was_begun t id (begun history) ≡ true
+    → find (λ (b : Begun). b.id == id) (begun history) ≡ Some (record { thread = t; id = id })
 found_begun threads askers history t id h k =
     let st = (left_by threads askers history h).stands in
     let one = any_one (IsBegunOnce (handed history) (filter_map reserved_in history) (begun history)) (λ (b : Begun). b.thread == t && b.id == id) (begun history) st.begun_once k in
@@ -156,12 +159,14 @@ found_begun threads askers history t id h k =
     (subst (λ n. find (λ (x : Begun). x.id == b.id) (begun history) ≡ Some (record { thread = n; id = b.id })) thread one.1.once)
 
 -- one thread alone began a work
-pub one_thread : (threads askers : ℕ) (history : List Event) (t u id : ℕ) → Legal threads askers history → was_begun t id (begun history) ≡ true → was_begun u id (begun history) ≡ true → u ≡ t
+pub one_thread : (threads askers : ℕ) (history : List Event) (t u id : ℕ) → Legal threads askers history → was_begun t id (begun history) ≡ true
+    → was_begun u id (begun history) ≡ true → u ≡ t
 one_thread threads askers history t u id h k l =
     ap (λ (b : Begun). b.thread) (some_same (record { thread = u; id = id }) (record { thread = t; id = id }) (sym (found_begun threads askers history u id h l) ∙ found_begun threads askers history t id h k))
 
 -- events of other threads finish no work of this one
-none_finished : (bs : List Begun) (t id : ℕ) → ((u : ℕ) → was_begun u id bs ≡ true → u ≡ t) → (ys : List Event) → Each (IsOfBegun bs) ys → Each (IsNotByThread t) ys → list_any (λ (f : ℕ × Outcome). f.0 == id) (finished ys) ≡ false
+none_finished : (bs : List Begun) (t id : ℕ) → ((u : ℕ) → was_begun u id bs ≡ true → u ≡ t) → (ys : List Event) → Each (IsOfBegun bs) ys
+    → Each (IsNotByThread t) ys → list_any (λ (f : ℕ × Outcome). f.0 == id) (finished ys) ≡ false
 none_finished bs t id only [] of others = refl
 none_finished bs t id only (event.Submit n work helper ∷ ys) of others = none_finished bs t id only ys of.1 others.1
 none_finished bs t id only (event.Start thread n ∷ ys) of others = none_finished bs t id only ys of.1 others.1
@@ -177,17 +182,21 @@ none_finished bs t id only (event.HelperNew no' answer ∷ ys) of others = none_
 none_finished bs t id only (event.HelperEnd no' ∷ ys) of others = none_finished bs t id only ys of.1 others.1
 none_finished bs t id only (event.Close ∷ ys) of others = none_finished bs t id only ys of.1 others.1
 
-pub finished_parts : (xs ys : List Event) (id : ℕ) → is_finished xs id ≡ false → list_any (λ (f : ℕ × Outcome). f.0 == id) (finished ys) ≡ false → is_finished (xs ++ ys) id ≡ false
+pub finished_parts : (xs ys : List Event) (id : ℕ) → is_finished xs id ≡ false → list_any (λ (f : ℕ × Outcome). f.0 == id) (finished ys) ≡ false
+    → is_finished (xs ++ ys) id ≡ false
 finished_parts xs ys id h k =
     ap (list_any (λ (f : ℕ × Outcome). f.0 == id)) (finished_append xs ys)
     ∙ (list_any-append (λ (f : ℕ × Outcome). f.0 == id) (finished xs) (finished ys) ∙ or_both (is_finished xs id) (list_any (λ (f : ℕ × Outcome). f.0 == id) (finished ys)) h k)
 
-pub value_more : (xs ys : List Handed) (id : ℕ) (o : Option Handed) (outcome : Outcome) → find (λ (w : Handed). w.id == id) xs ≡ o → HasValue o outcome → HasValue (find (λ (w : Handed). w.id == id) (xs ++ ys)) outcome
+pub value_more : (xs ys : List Handed) (id : ℕ) (o : Option Handed) (outcome : Outcome) → find (λ (w : Handed). w.id == id) xs ≡ o
+    → HasValue o outcome → HasValue (find (λ (w : Handed). w.id == id) (xs ++ ys)) outcome
 value_more xs ys id None outcome e h = absurd h
 value_more xs ys id (Some w) outcome e h = subst (λ o. HasValue o outcome) (sym (find_more (λ (w : Handed). w.id == id) xs ys w e)) h
 
 -- a finish that is legal stays so behind events of other threads
-pub finish_stays : (threads askers : ℕ) (xs ys : List Event) (t id : ℕ) (outcome : Outcome) → Legal threads askers (xs ++ ys) → Each (IsNotByThread t) ys → IsLegalAfter threads askers xs (event.Finish t id outcome) → IsLegalAfter threads askers (xs ++ ys) (event.Finish t id outcome)
+pub finish_stays : (threads askers : ℕ) (xs ys : List Event) (t id : ℕ) (outcome : Outcome) → Legal threads askers (xs ++ ys)
+    → Each (IsNotByThread t) ys → IsLegalAfter threads askers xs (event.Finish t id outcome)
+    → IsLegalAfter threads askers (xs ++ ys) (event.Finish t id outcome)
 finish_stays threads askers xs ys t id outcome h others is =
     let began : was_begun t id (begun (xs ++ ys)) ≡ true =
     ap (was_begun t id) (begun_append xs ys) ∙ any_more (λ (b : Begun). b.thread == t && b.id == id) (begun xs) (begun ys) is.rule.0 in
@@ -211,7 +220,9 @@ started_new threads xs t id None h = absurd h
 started_new threads xs t id (Some w) h = h.0
 
 -- a thread that has just begun a work may finish it with its value
-pub may_finish : (threads askers : ℕ) (xs : List Event) (t id : ℕ) (work : Work) → Legal threads askers xs → MayStart threads xs t id → option_map (λ (w : Handed). w.work) (work_at xs id) ≡ Some work → IsLegalAfter threads askers (xs ++ event.Start t id ∷ []) (event.Finish t id (value_of work))
+pub may_finish : (threads askers : ℕ) (xs : List Event) (t id : ℕ) (work : Work) → Legal threads askers xs → MayStart threads xs t id
+    → option_map (λ (w : Handed). w.work) (work_at xs id) ≡ Some work
+    → IsLegalAfter threads askers (xs ++ event.Start t id ∷ []) (event.Finish t id (value_of work))
 may_finish threads askers xs t id work h is has =
     let st = (left_by threads askers xs h).stands in
     let new : is_begun xs id ≡ false = started_new threads xs t id (work_at xs id) is.1 in
@@ -228,7 +239,8 @@ may_finish threads askers xs t id work h is has =
     }
 
 -- a thread that ends the one work that it began runs nothing
-pub idle_again : (xs ys : List Event) (t id : ℕ) (outcome : Outcome) → Each (IsNotByThread t) ys → is_running xs t ≡ false → is_running (((xs ++ event.Start t id ∷ []) ++ ys) ++ event.Finish t id outcome ∷ []) t ≡ false
+pub idle_again : (xs ys : List Event) (t id : ℕ) (outcome : Outcome) → Each (IsNotByThread t) ys → is_running xs t ≡ false
+    → is_running (((xs ++ event.Start t id ∷ []) ++ ys) ++ event.Finish t id outcome ∷ []) t ≡ false
 idle_again xs ys t id outcome others h =
     let all = ((xs ++ event.Start t id ∷ []) ++ ys) ++ event.Finish t id outcome ∷ [] in
     let done = is_finished all in

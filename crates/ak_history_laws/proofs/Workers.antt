@@ -53,7 +53,8 @@ pub submits_stay : (xs ys : List Event) → Each IsNotByScheduler ys → count_b
 submits_stay xs ys h =
     omega (arith, count_append is_submit xs ys, of_others (λ l. count_by is_submit l ≡ 0) refl (λ t id l k. k) (λ t id o l k. k) (λ q a n l k. k) (λ a l k. k) ys h)
 
-pub submits_behind : (seen whole es : List Event) → Behind IsNotByScheduler seen whole → count_by is_submit (whole ++ es) ≡ count_by is_submit seen + count_by is_submit es
+pub submits_behind : (seen whole es : List Event) → Behind IsNotByScheduler seen whole
+    → count_by is_submit (whole ++ es) ≡ count_by is_submit seen + count_by is_submit es
 submits_behind seen whole es b =
     omega (arith, count_append is_submit whole es, ap (count_by is_submit) b.whole_is, submits_stay seen b.rest b.others)
 
@@ -62,7 +63,8 @@ helpers_stay xs ys h =
     omega (arith, count_append is_helper_new xs ys, of_others (λ l. count_by is_helper_new l ≡ 0) refl (λ t id l k. k) (λ t id o l k. k) (λ q a n l k. k) (λ a l k. k) ys h)
 
 -- a filter that gives nothing of such events
-pub map_stays : {B : Type 0} (f : Event → Option B) → ((e : Event) → IsNotByScheduler e → f e ≡ None) → (xs ys : List Event) → Each IsNotByScheduler ys → filter_map f (xs ++ ys) ≡ filter_map f xs
+pub map_stays : {B : Type 0} (f : Event → Option B) → ((e : Event) → IsNotByScheduler e → f e ≡ None) → (xs ys : List Event)
+    → Each IsNotByScheduler ys → filter_map f (xs ++ ys) ≡ filter_map f xs
 map_stays f none xs ys h =
     filter_map-append f xs ys
     ∙ (ap (λ l. filter_map f xs ++ l)

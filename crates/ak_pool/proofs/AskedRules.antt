@@ -24,7 +24,8 @@ some_mapped g None = refl
 some_mapped g (Some x) = refl
 
 -- whether a request is answered
-pub answered_is : (askers : ℕ) (history : List Event) (s : RequestsState) (q : ℕ) → AskersStand askers (request_facts history) s → is_answered history q ≡ is_some (made_at s q).answer
+pub answered_is : (askers : ℕ) (history : List Event) (s : RequestsState) (q : ℕ) → AskersStand askers (request_facts history) s
+    → is_answered history q ≡ is_some (made_at s q).answer
 answered_is askers history s q st =
     sym (any_from_find (λ (x : ℕ × ℤ). x.0 == q) (answers history))
     ∙ (sym (some_mapped (λ (x : ℕ × ℤ). x.1) (find (λ (x : ℕ × ℤ). x.0 == q) (answers history))) ∙ ap is_some (st.answers q))
@@ -43,7 +44,8 @@ both_true true true e = absurd (cc e)
 both_true false b e = absurd (cc e)
 
 -- a request that stands for an asker's wait is the one for which it waits
-waits_for : (askers : ℕ) (history : List Event) (s : RequestsState) (a q : ℕ) → AskersStand askers (request_facts history) s → q < length s.made → waits history a (asking_of (made_at s q)) ≡ true
+waits_for : (askers : ℕ) (history : List Event) (s : RequestsState) (a q : ℕ) → AskersStand askers (request_facts history) s → q < length s.made
+    → waits history a (asking_of (made_at s q)) ≡ true
     → (asker_at s a).waits_for ≡ Some q
 waits_for askers history s a q st lt e =
     let k = both_true ((made_at s q).asker == a) (is_answered history (made_at s q).no) e in
@@ -72,7 +74,8 @@ waits_at askers history s a q st e =
     ap (is_answered history) (st.numbered q w.made) ∙ (answered_is askers history s q st ∙ ap is_some w.unanswered) in
     (w.made, (λ i. own i && not (bare i)))
 
-pub waiting_is : (askers : ℕ) (history : List Event) (s : RequestsState) (a : ℕ) → AskersStand askers (request_facts history) s → waiting_for history a ≡ (asker_at s a).waits_for
+pub waiting_is : (askers : ℕ) (history : List Event) (s : RequestsState) (a : ℕ) → AskersStand askers (request_facts history) s
+    → waiting_for history a ≡ (asker_at s a).waits_for
 waiting_is askers history s a st = of (asker_at s a).waits_for refl
   where
     many : length (map asking_of s.made) ≡ length s.made
@@ -120,14 +123,16 @@ none_is : {A : Type 0} (o : Option A) → not (is_some o) ≡ true → o ≡ Non
 none_is None e = refl
 none_is (Some x) e = absurd (cc e)
 
-pub idle_free : (askers : ℕ) (history : List Event) (s : RequestsState) (a : ℕ) → AskersStand askers (request_facts history) s → IsIdle askers history a → IsFree s a
+pub idle_free : (askers : ℕ) (history : List Event) (s : RequestsState) (a : ℕ) → AskersStand askers (request_facts history) s
+    → IsIdle askers history a → IsFree s a
 idle_free askers history s a st h = (
   omega (arith, h.exists, st.size),
   sym (st.ended a) ∙ h.not_ended,
   sym (waiting_is askers history s a st) ∙ none_is (waiting_for history a) (sym (served_is history a) ∙ h.served),
 )
 
-pub free_idle : (askers : ℕ) (history : List Event) (s : RequestsState) (a : ℕ) → AskersStand askers (request_facts history) s → IsFree s a → IsIdle askers history a
+pub free_idle : (askers : ℕ) (history : List Event) (s : RequestsState) (a : ℕ) → AskersStand askers (request_facts history) s → IsFree s a
+    → IsIdle askers history a
 free_idle askers history s a st h = record {
   exists = omega (arith, h.0, st.size);
   not_ended = st.ended a ∙ h.1;
@@ -135,7 +140,8 @@ free_idle askers history s a st h = record {
 }
 
 -- ---- what was not fetched
-pub fetched_is : (askers : ℕ) (history : List Event) (s : RequestsState) (q : ℕ) → AskersStand askers (request_facts history) s → is_fetched history q ≡ ltb q s.fetched
+pub fetched_is : (askers : ℕ) (history : List Event) (s : RequestsState) (q : ℕ) → AskersStand askers (request_facts history) s
+    → is_fetched history q ≡ ltb q s.fetched
 fetched_is askers history s q st = ap (λ l. is_among l q) st.fetched ∙ among_below s.fetched q
 
 made_behind : (askers : ℕ) (history : List Event) (s : RequestsState) → AskersStand askers (request_facts history) s
@@ -145,7 +151,8 @@ made_behind askers history s st =
     ap (λ l. filter (λ (m : Made). not (is_among l m.no)) s.made) st.fetched
     ∙ (from_number (λ (m : Made). m.no) s.made no_request 0 s.fetched (λ q lt. omega (arith, st.numbered q lt)) ∙ ap (λ k. drop k s.made) e)
 
-pub unfetched_is : (askers : ℕ) (history : List Event) (s : RequestsState) → AskersStand askers (request_facts history) s → map (λ (m : Made). m.no) (unfetched_of s) ≡ unfetched history
+pub unfetched_is : (askers : ℕ) (history : List Event) (s : RequestsState) → AskersStand askers (request_facts history) s
+    → map (λ (m : Made). m.no) (unfetched_of s) ≡ unfetched history
 unfetched_is askers history s st =
     let p = λ (q : ℕ). not (is_fetched history q) in
     sym
@@ -153,7 +160,8 @@ unfetched_is askers history s st =
     ∙ (ap (filter p) (map_mapped (λ (r : Asking). r.no) asking_of s.made)
     ∙ (filter_mapped p (λ (m : Made). m.no) s.made ∙ ap (map (λ (m : Made). m.no)) (made_behind askers history s st))))
 
-pub pairs_are : (askers : ℕ) (history : List Event) (s : RequestsState) → AskersStand askers (request_facts history) s → map pair_of (unfetched_of s) ≡ request_pairs history
+pub pairs_are : (askers : ℕ) (history : List Event) (s : RequestsState) → AskersStand askers (request_facts history) s
+    → map pair_of (unfetched_of s) ≡ request_pairs history
 pairs_are askers history s st =
     let p = λ (r : Asking). not (is_fetched history r.no) in
     sym
@@ -166,14 +174,16 @@ pub left_is : (askers : ℕ) (history : List Event) (s : RequestsState) → Aske
 left_is askers history s st = omega (arith, st.left)
 
 -- ---- the rules
-pub unanswered_from : (askers : ℕ) (history : List Event) (s : RequestsState) (q : ℕ) → AskersStand askers (request_facts history) s → is_fetched history q ≡ true → is_answered history q ≡ false → IsUnanswered s q
+pub unanswered_from : (askers : ℕ) (history : List Event) (s : RequestsState) (q : ℕ) → AskersStand askers (request_facts history) s
+    → is_fetched history q ≡ true → is_answered history q ≡ false → IsUnanswered s q
 unanswered_from askers history s q st fetched bare = (
   ltb-true q s.fetched (sym (fetched_is askers history s q st) ∙ fetched),
   is_none (made_at s q).answer (sym (answered_is askers history s q st) ∙ bare),
 )
 
 -- a legal event fits
-pub legal_requests : (size askers : ℕ) (history : List Event) (s : RequestsState) (e : Event) → AskersStand askers (request_facts history) s → IsLegalAfter size askers history e → FitsRequests s e
+pub legal_requests : (size askers : ℕ) (history : List Event) (s : RequestsState) (e : Event) → AskersStand askers (request_facts history) s
+    → IsLegalAfter size askers history e → FitsRequests s e
 legal_requests size askers history s (event.Submit id work helper) st h = tt
 legal_requests size askers history s (event.Start thread id) st h = tt
 legal_requests size askers history s (event.Finish thread id outcome) st h = tt
@@ -187,10 +197,12 @@ legal_requests size askers history s (event.HelperEnd helper) st h = tt
 legal_requests size askers history s event.Close st h = tt
 
 -- the number of the next request
-pub next_number : (askers : ℕ) (history : List Event) (s : RequestsState) → AskersStand askers (request_facts history) s → length s.made ≡ length (asked history)
+pub next_number : (askers : ℕ) (history : List Event) (s : RequestsState) → AskersStand askers (request_facts history) s
+    → length s.made ≡ length (asked history)
 next_number askers history s st = sym (ap length st.asked ∙ length-map s.made asking_of)
 
-pub answer_rule : (askers : ℕ) (history : List Event) (s : RequestsState) (q : ℕ) → AskersStand askers (request_facts history) s → IsUnanswered s q → (is_fetched history q ≡ true) × (is_answered history q ≡ false)
+pub answer_rule : (askers : ℕ) (history : List Event) (s : RequestsState) (q : ℕ) → AskersStand askers (request_facts history) s → IsUnanswered s q
+    → (is_fetched history q ≡ true) × (is_answered history q ≡ false)
 answer_rule askers history s q st h = (
   fetched_is askers history s q st ∙ lt-ltb q s.fetched h.0,
   answered_is askers history s q st ∙ ap is_some h.1,
@@ -201,6 +213,7 @@ empty_drop : {A B : Type 0} (g : A → B) (xs : List A) → (length xs == 0) ≡
 empty_drop g [] = refl
 empty_drop g (x ∷ xs) = ne_eqb (length (x ∷ xs)) 0 (λ e. absurd (omega (arith, e)))
 
-pub none_unfetched : (askers : ℕ) (history : List Event) (s : RequestsState) → AskersStand askers (request_facts history) s → (length (unfetched_of s) == 0) ≡ is_empty_list (unfetched history)
+pub none_unfetched : (askers : ℕ) (history : List Event) (s : RequestsState) → AskersStand askers (request_facts history) s
+    → (length (unfetched_of s) == 0) ≡ is_empty_list (unfetched history)
 none_unfetched askers history s st =
     empty_drop (λ (m : Made). m.no) (unfetched_of s) ∙ ap is_empty_list (unfetched_is askers history s st)

@@ -61,7 +61,8 @@ fetched_kept : (xs : List Event) (e : Event) → fetched_in e ≡ [] → flat_ma
 fetched_kept xs e k =
     flat_last fetched_in xs e ∙ (ap (λ l. flat_map fetched_in xs ++ l) k ∙ append-nil (flat_map fetched_in xs))
 
-quiet : (xs : List Event) (e : Event) → asked_in e ≡ None → fetched_in e ≡ [] → answered_in e ≡ None → left_in e ≡ None → is_asker_end e ≡ false → is_drain e ≡ false
+quiet : (xs : List Event) (e : Event) → asked_in e ≡ None → fetched_in e ≡ [] → answered_in e ≡ None → left_in e ≡ None → is_asker_end e ≡ false
+    → is_drain e ≡ false
     → request_facts (xs ++ e ∷ []) ≡ request_facts xs
 quiet xs e a b c d end drain =
     same_facts _ _ (map_kept asked_in xs e a) (fetched_kept xs e b) (map_kept answered_in xs e c) (map_kept left_in xs e d)
@@ -98,24 +99,28 @@ asker_other : (s : RequestsState) (a b : ℕ) (x : Asker) → (b ≡ a → ⊥) 
 asker_other s a b x ne = get_or-set_other s.askers a b x no_asker ne
 
 -- what all askers keep where the new one keeps it
-put_keeps : {T : Type 0} (g : Asker → T) (s : RequestsState) (a b : ℕ) (x : Asker) → a < length s.askers → g x ≡ g (asker_at s a) → g (asker_at (asker_put a x s) b) ≡ g (asker_at s b)
+put_keeps : {T : Type 0} (g : Asker → T) (s : RequestsState) (a b : ℕ) (x : Asker) → a < length s.askers → g x ≡ g (asker_at s a)
+    → g (asker_at (asker_put a x s) b) ≡ g (asker_at s b)
 put_keeps g s a b x lt same =
     elim (cases_eq b a) [
       | inl e ↦ ap (λ n. g (asker_at (asker_put a x s) n)) e ∙ (ap g (asker_same s a x lt) ∙ (same ∙ sym (ap (λ n. g (asker_at s n)) e)))
       | inr ne ↦ ap g (asker_other s a b x ne)
     ]
 
-left_put : (s : RequestsState) (a : ℕ) (x : Asker) → a < length s.askers → left_of (asker_put a x s) + bit (not (asker_at s a).ended) ≡ left_of s + bit (not x.ended)
+left_put : (s : RequestsState) (a : ℕ) (x : Asker) → a < length s.askers
+    → left_of (asker_put a x s) + bit (not (asker_at s a).ended) ≡ left_of s + bit (not x.ended)
 left_put s a x lt = sum_by-set (λ y. bit (not y.ended)) s.askers a x no_asker lt
 
 pub due_put : (s : RequestsState) (a : ℕ) (x : Asker) → a < length s.askers → due_of (asker_put a x s) + asker_due (asker_at s a) ≡ due_of s + asker_due x
 due_put s a x lt = sum_by-set asker_due s.askers a x no_asker lt
 
-waiting_put : (s : RequestsState) (a : ℕ) (x : Asker) → a < length s.askers → count_by is_waiting (set s.askers a x) + bit (is_waiting (asker_at s a)) ≡ count_by is_waiting s.askers + bit (is_waiting x)
+waiting_put : (s : RequestsState) (a : ℕ) (x : Asker) → a < length s.askers
+    → count_by is_waiting (set s.askers a x) + bit (is_waiting (asker_at s a)) ≡ count_by is_waiting s.askers + bit (is_waiting x)
 waiting_put s a x lt = sum_by-set (λ y. bit (is_waiting y)) s.askers a x no_asker lt
 
 -- an asker that waits has not ended, where this is so of the one that is put in
-lasting_put : (s : RequestsState) (a : ℕ) (x : Asker) → a < length s.askers → (is_waiting x ≡ true → x.ended ≡ false) → ((b : ℕ) → is_waiting (asker_at s b) ≡ true → (asker_at s b).ended ≡ false)
+lasting_put : (s : RequestsState) (a : ℕ) (x : Asker) → a < length s.askers → (is_waiting x ≡ true → x.ended ≡ false)
+    → ((b : ℕ) → is_waiting (asker_at s b) ≡ true → (asker_at s b).ended ≡ false)
     → (b : ℕ) → is_waiting (asker_at (asker_put a x s) b) ≡ true → (asker_at (asker_put a x s) b).ended ≡ false
 lasting_put s a x lt here others b =
     elim (cases_eq b a) [
@@ -394,7 +399,8 @@ unfetched_numbers s numbered few =
     ap (λ l. numbers_below s.fetched ++ l) (unfetched_range s numbered few ∙ ap (range_with_len s.fetched) (length-drop s.fetched s.made))
     ∙ below_then s.fetched (length s.made) few
 
-stands_told : (size : ℕ) (f : RequestFacts) (s : RequestsState) (ids requests : List ℕ) → AskersStand size f s → requests ≡ map (λ (m : Made). m.no) (unfetched_of s)
+stands_told : (size : ℕ) (f : RequestFacts) (s : RequestsState) (ids requests : List ℕ) → AskersStand size f s
+    → requests ≡ map (λ (m : Made). m.no) (unfetched_of s)
     → AskersStand size (request_added (event.Drain ids requests) f) (all_fetched s)
 stands_told size f s ids requests st e =
     record {
@@ -416,7 +422,8 @@ stands_told size f s ids requests st e =
     }
 
 -- ---- all events
-next_facts : (size : ℕ) (f : RequestFacts) (s : RequestsState) (e : Event) → AskersStand size f s → FitsRequests s e → AskersStand size (request_added e f) (requests_noted e s)
+next_facts : (size : ℕ) (f : RequestFacts) (s : RequestsState) (e : Event) → AskersStand size f s → FitsRequests s e
+    → AskersStand size (request_added e f) (requests_noted e s)
 next_facts size f s (event.Submit id work helper) st h = st
 next_facts size f s (event.Start thread id) st h = st
 next_facts size f s (event.Finish thread id outcome) st h = st

@@ -23,7 +23,8 @@ got (y ∷ ys) zero x lt e = ap Some (sym e)
 got (y ∷ ys) (suc k) x lt e = got ys k x (omega arith) e
 
 -- the first event that does not fit
-pub first_illegal : (size askers : ℕ) (xs : List Event) (k : ℕ) (e : Event) (s : DeskState) (r : RequestsState) → k < length xs → e ≡ get_or xs k e → Legal size askers (take k xs) → Stands size (facts_of (take k xs)) s
+pub first_illegal : (size askers : ℕ) (xs : List Event) (k : ℕ) (e : Event) (s : DeskState) (r : RequestsState) → k < length xs → e ≡ get_or xs k e
+    → Legal size askers (take k xs) → Stands size (facts_of (take k xs)) s
     → AskersStand askers (request_facts (take k xs)) r → (Fits s e × FitsRequests r e → ⊥) → IsFirstIllegal size askers xs k
 first_illegal size askers xs k e s r lt is legal st asked misfit =
     (legal, (e, got xs k e lt is, λ h. misfit (legal_fits size askers (take k xs) s e st h, legal_requests size askers (take k xs) r e asked h)))
@@ -43,7 +44,8 @@ pub record AreJudged (size askers : ℕ) (xs : List Event) (s : DeskState) (r : 
   pub asked : AskersStand askers (request_facts xs) r
 
 -- one more event that fits
-pub judged : (size askers : ℕ) (xs : List Event) (k : ℕ) (e : Event) (s s' : DeskState) (r r' : RequestsState) → k < length xs → e ≡ get_or xs k e → AreJudged size askers (take k xs) s r
+pub judged : (size askers : ℕ) (xs : List Event) (k : ℕ) (e : Event) (s s' : DeskState) (r r' : RequestsState) → k < length xs → e ≡ get_or xs k e
+    → AreJudged size askers (take k xs) s r
     → Fits s e → FitsRequests r e → s' ≡ noted e s → r' ≡ requests_noted e r → AreJudged size askers (take (k + 1) xs) s' r'
 judged size askers xs k e s s' r r' lt is so_far fits fits_too now now_too =
     let more : take (k + 1) xs ≡ take k xs ++ e ∷ [] = take_more xs k e lt ∙ ap (λ x. take k xs ++ x ∷ []) (sym is) in

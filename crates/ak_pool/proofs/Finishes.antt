@@ -35,7 +35,8 @@ tests_fewer true false false = refl
 tests_fewer false c e = refl
 
 -- what runs, without the work that is finished
-running_fewer : (begun : List Begun) (finished : List (ℕ × Outcome)) (x : ℕ × Outcome) (u : ℕ) → running_on begun (finished ++ x ∷ []) u ≡ filter (λ (b : Begun). not (x.0 == b.id)) (running_on begun finished u)
+running_fewer : (begun : List Begun) (finished : List (ℕ × Outcome)) (x : ℕ × Outcome) (u : ℕ)
+    → running_on begun (finished ++ x ∷ []) u ≡ filter (λ (b : Begun). not (x.0 == b.id)) (running_on begun finished u)
 running_fewer begun finished x u =
     filter_same (λ (b : Begun). b.thread == u && not (has_finished (finished ++ x ∷ []) b.id)) (λ (b : Begun). (b.thread == u && not (has_finished finished b.id)) && not (x.0 == b.id)) begun
     (each_all (λ (b : Begun). (b.thread == u && not (has_finished (finished ++ x ∷ []) b.id)) ≡ ((b.thread == u && not (has_finished finished b.id)) && not (x.0 == b.id))) (λ b. ap (λ c. b.thread == u && not c) (any_last (λ (y : ℕ × Outcome). y.0 == b.id) finished x) ∙ tests_fewer (b.thread == u) (has_finished finished b.id) (x.0 == b.id)) begun)
@@ -44,7 +45,8 @@ running_fewer begun finished x u =
 list_gone : (t : ℕ) (task : Task) (id : ℕ) → id ≡ task.id → filter (λ (b : Begun). not (id == b.id)) (begun_list t (Some task)) ≡ []
 list_gone t task id e = ap (λ c. cond (not c) (begun_list t (Some task)) []) (eq-eqb id task.id e)
 
-list_stays : (u : ℕ) (running : Option Task) (id : ℕ) → ((task : Task) → running ≡ Some task → id ≡ task.id → ⊥) → filter (λ (b : Begun). not (id == b.id)) (begun_list u running) ≡ begun_list u running
+list_stays : (u : ℕ) (running : Option Task) (id : ℕ) → ((task : Task) → running ≡ Some task → id ≡ task.id → ⊥)
+    → filter (λ (b : Begun). not (id == b.id)) (begun_list u running) ≡ begun_list u running
 list_stays u None id f = refl
 list_stays u (Some task) id f =
     ap (λ c. cond (not c) (begun_list u (Some task)) []) (ne_eqb id task.id (f task refl))
@@ -55,7 +57,8 @@ pub record IsRunning (f : Facts) (t : ℕ) (task : Task) : Type 0 where
   pub begun : has_begun f.begun task.id ≡ true
   pub unfinished : has_finished f.finished task.id ≡ false
 
-pub running_of : (size : ℕ) (f : Facts) (s : DeskState) (t : ℕ) (task : Task) → Stands size f s → t < size → (thread_at s t).running ≡ Some task → IsRunning f t task
+pub running_of : (size : ℕ) (f : Facts) (s : DeskState) (t : ℕ) (task : Task) → Stands size f s → t < size → (thread_at s t).running ≡ Some task
+    → IsRunning f t task
 running_of size f s t task st lt is =
     let row = st.each_thread t lt in
     let runs = row.running ∙ ap (begun_list t) is in
@@ -67,25 +70,29 @@ running_of size f s t task st lt is =
       unfinished = two.1;
     }
 
-apart : (size : ℕ) (f : Facts) (s : DeskState) (t u : ℕ) (task other : Task) → Stands size f s → IsRunning f t task → u < size → (thread_at s u).running ≡ Some other → task.id ≡ other.id → u ≡ t
+apart : (size : ℕ) (f : Facts) (s : DeskState) (t u : ℕ) (task other : Task) → Stands size f s → IsRunning f t task → u < size
+    → (thread_at s u).running ≡ Some other → task.id ≡ other.id → u ≡ t
 apart size f s t u task other st here lt is e =
     let there = running_of size f s u other st lt is in
     ap (λ (b : Begun). b.thread) (some_same _ _ (sym there.first ∙ ap (λ n. find (λ (b : Begun). b.id == n) f.begun) (sym e) ∙ here.first))
 
 -- a helper that the work is not for is over as before
-over_apart : (f : Facts) (w : Handed) (x : ℕ × Outcome) (helper : ℕ) → AreNumbered 0 f.handed → work_in f.handed x.0 ≡ Some w → is_for helper w ≡ false → over_in f.ended (f.finished ++ x ∷ []) f.handed helper ≡ over_in f.ended f.finished f.handed helper
+over_apart : (f : Facts) (w : Handed) (x : ℕ × Outcome) (helper : ℕ) → AreNumbered 0 f.handed → work_in f.handed x.0 ≡ Some w
+    → is_for helper w ≡ false → over_in f.ended (f.finished ++ x ∷ []) f.handed helper ≡ over_in f.ended f.finished f.handed helper
 over_apart f w x helper num found other =
     ap (λ b. is_among f.ended helper && b)
     (all_same (λ v. has_finished (f.finished ++ x ∷ []) v.id) (λ v. has_finished f.finished v.id) (filter (is_for helper) f.handed)
     (each_map (λ v. (v.id ≡ x.0 → v ≡ w) × (is_for helper v ≡ true)) (λ v. has_finished (f.finished ++ x ∷ []) v.id ≡ has_finished f.finished v.id) (λ v k. finished_apart f.finished x v.id (λ e. absurd (cc (k.1, ap (is_for helper) (k.0 (sym e)), other)))) (filter (is_for helper) f.handed)
     (each_both (λ v. v.id ≡ x.0 → v ≡ w) (λ v. is_for helper v ≡ true) (filter (is_for helper) f.handed) (each_filter (λ v. v.id ≡ x.0 → v ≡ w) (is_for helper) f.handed (only 0 x.0 w f.handed (numbered_grow 0 f.handed num) found)) (each_passes (is_for helper) f.handed))))
 
-held_same : (f : Facts) (x : ℕ × Outcome) → ((h : ℕ) → over_in f.ended (f.finished ++ x ∷ []) f.handed h ≡ over_in f.ended f.finished f.handed h) → (u : ℕ) → held_on f.reserved f.ended (f.finished ++ x ∷ []) f.handed u ≡ held_on f.reserved f.ended f.finished f.handed u
+held_same : (f : Facts) (x : ℕ × Outcome) → ((h : ℕ) → over_in f.ended (f.finished ++ x ∷ []) f.handed h ≡ over_in f.ended f.finished f.handed h)
+    → (u : ℕ) → held_on f.reserved f.ended (f.finished ++ x ∷ []) f.handed u ≡ held_on f.reserved f.ended f.finished f.handed u
 held_same f x same u =
     filter_same (λ r. r.thread == u && not (over_in f.ended (f.finished ++ x ∷ []) f.handed r.helper)) (λ r. r.thread == u && not (over_in f.ended f.finished f.handed r.helper)) f.reserved
     (each_all (λ r. (r.thread == u && not (over_in f.ended (f.finished ++ x ∷ []) f.handed r.helper)) ≡ (r.thread == u && not (over_in f.ended f.finished f.handed r.helper))) (λ r. ap (λ b. r.thread == u && not b) (same r.helper)) f.reserved)
 
-first_finished : (f : Facts) (x : ℕ × Outcome) → Each (λ id. has_finished f.finished id ≡ true) f.drained → Each (λ id. has_finished (f.finished ++ x ∷ []) id ≡ true) f.drained
+first_finished : (f : Facts) (x : ℕ × Outcome) → Each (λ id. has_finished f.finished id ≡ true) f.drained
+    → Each (λ id. has_finished (f.finished ++ x ∷ []) id ≡ true) f.drained
 first_finished f x h =
     each_map (λ id. has_finished f.finished id ≡ true) (λ id. has_finished (f.finished ++ x ∷ []) id ≡ true) (λ id k. any_more (λ (y : ℕ × Outcome). y.0 == id) f.finished (x ∷ []) k) f.drained h
 
@@ -98,7 +105,9 @@ test_done true true = refl
 test_done true false = refl
 test_done false c = refl
 
-general_fewer : (f : Facts) (w : Handed) (x : ℕ × Outcome) → AreNumbered 0 f.handed → work_in f.handed x.0 ≡ Some w → is_general w ≡ true → has_begun f.begun x.0 ≡ true → has_finished f.finished x.0 ≡ false → general_in f.handed f.begun f.finished ≡ general_in f.handed f.begun (f.finished ++ x ∷ []) + 1
+general_fewer : (f : Facts) (w : Handed) (x : ℕ × Outcome) → AreNumbered 0 f.handed → work_in f.handed x.0 ≡ Some w → is_general w ≡ true
+    → has_begun f.begun x.0 ≡ true → has_finished f.finished x.0 ≡ false
+    → general_in f.handed f.begun f.finished ≡ general_in f.handed f.begun (f.finished ++ x ∷ []) + 1
 general_fewer f w x num found of e g =
     let id : w.id ≡ x.0 = found_id x.0 w f.handed found in
     count_one (general_test f.begun (f.finished ++ x ∷ [])) (general_test f.begun f.finished) 0 x.0 w f.handed (numbered_grow 0 f.handed num)
@@ -109,14 +118,16 @@ general_fewer f w x num found of e g =
     ∙ ap (λ c. true && true && not c) (ap (has_finished f.finished) id ∙ g))
     found
 
-general_same_at : (f : Facts) (w : Handed) (x : ℕ × Outcome) (v : Handed) → is_general w ≡ false → (v.id ≡ x.0 → v ≡ w) → (v.id ≡ x.0) ⊎ (v.id ≡ x.0 → ⊥) → general_test f.begun (f.finished ++ x ∷ []) v ≡ general_test f.begun f.finished v
+general_same_at : (f : Facts) (w : Handed) (x : ℕ × Outcome) (v : Handed) → is_general w ≡ false → (v.id ≡ x.0 → v ≡ w)
+    → (v.id ≡ x.0) ⊎ (v.id ≡ x.0 → ⊥) → general_test f.begun (f.finished ++ x ∷ []) v ≡ general_test f.begun f.finished v
 general_same_at f w x v of same (inl e) =
     ap (λ c. c && has_begun f.begun v.id && not (has_finished (f.finished ++ x ∷ []) v.id)) (ap is_general (same e) ∙ of)
     ∙ sym (ap (λ c. c && has_begun f.begun v.id && not (has_finished f.finished v.id)) (ap is_general (same e) ∙ of))
 general_same_at f w x v of same (inr ne) =
     ap (λ c. is_general v && has_begun f.begun v.id && not c) (finished_apart f.finished x v.id (λ s. ne (sym s)))
 
-general_stays : (f : Facts) (w : Handed) (x : ℕ × Outcome) → AreNumbered 0 f.handed → work_in f.handed x.0 ≡ Some w → is_general w ≡ false → general_in f.handed f.begun (f.finished ++ x ∷ []) ≡ general_in f.handed f.begun f.finished
+general_stays : (f : Facts) (w : Handed) (x : ℕ × Outcome) → AreNumbered 0 f.handed → work_in f.handed x.0 ≡ Some w → is_general w ≡ false
+    → general_in f.handed f.begun (f.finished ++ x ∷ []) ≡ general_in f.handed f.begun f.finished
 general_stays f w x num found of =
     count_same (general_test f.begun (f.finished ++ x ∷ [])) (general_test f.begun f.finished) f.handed
     (each_map (λ v. v.id ≡ x.0 → v ≡ w) (λ v. general_test f.begun (f.finished ++ x ∷ []) v ≡ general_test f.begun f.finished v) (λ v same. general_same_at f w x v of same (cases_eq v.id x.0)) f.handed (only 0 x.0 w f.handed (numbered_grow 0 f.handed num) found))
@@ -125,7 +136,9 @@ general_stays f w x num found of =
 not_left : (z : ThreadState) → z.ended ≡ false → vacated z ≡ z
 not_left z e = ap (λ b. cond (b && is_none z.running && is_empty_list z.queue) (record z { helper = None; ended = false }) z) e
 
-thread_apart : (f : Facts) (u : ℕ) (x : ThreadState) (p : ℕ × Outcome) → ((task : Task) → x.running ≡ Some task → p.0 ≡ task.id → ⊥) → held_on f.reserved f.ended (f.finished ++ p ∷ []) f.handed u ≡ reserved_list u x.helper → ThreadStands f.handed f.begun f.finished f.reserved f.ended u x → ThreadStands f.handed f.begun (f.finished ++ p ∷ []) f.reserved f.ended u x
+thread_apart : (f : Facts) (u : ℕ) (x : ThreadState) (p : ℕ × Outcome) → ((task : Task) → x.running ≡ Some task → p.0 ≡ task.id → ⊥)
+    → held_on f.reserved f.ended (f.finished ++ p ∷ []) f.handed u ≡ reserved_list u x.helper
+    → ThreadStands f.handed f.begun f.finished f.reserved f.ended u x → ThreadStands f.handed f.begun (f.finished ++ p ∷ []) f.reserved f.ended u x
 thread_apart f u x p ne held row =
     record {
       running = running_fewer f.begun f.finished p u ∙ ap (filter (λ (b : Begun). not (p.0 == b.id))) row.running ∙ list_stays u x.running p.0 ne;
@@ -135,7 +148,8 @@ thread_apart f u x p ne held row =
     }
 
 -- how many threads run general works when this one runs nothing
-general_ends : (ths : List ThreadState) (t : ℕ) (task : Task) (y : ThreadState) → t < length ths → (get_or ths t idle_thread).running ≡ Some task → (get_or ths t idle_thread).helper ≡ None → y.running ≡ None → count_by runs_general ths ≡ count_by runs_general (set ths t y) + 1
+general_ends : (ths : List ThreadState) (t : ℕ) (task : Task) (y : ThreadState) → t < length ths → (get_or ths t idle_thread).running ≡ Some task
+    → (get_or ths t idle_thread).helper ≡ None → y.running ≡ None → count_by runs_general ths ≡ count_by runs_general (set ths t y) + 1
 general_ends ths t task y lt is free idle =
     let x = get_or ths t idle_thread in
     let before : one_if (runs_general x) ≡ 1 = ap (λ o. one_if (is_some o && is_none x.helper)) is ∙ ap (λ o. one_if (true && is_none o)) free in
@@ -146,7 +160,8 @@ pub none_both : (a : Bool) → (a && false) ≡ false
 none_both true = refl
 none_both false = refl
 
-pub general_idle : (ths : List ThreadState) (t helper : ℕ) (y : ThreadState) → t < length ths → (get_or ths t idle_thread).helper ≡ Some helper → runs_general y ≡ false → count_by runs_general (set ths t y) ≡ count_by runs_general ths
+pub general_idle : (ths : List ThreadState) (t helper : ℕ) (y : ThreadState) → t < length ths → (get_or ths t idle_thread).helper ≡ Some helper
+    → runs_general y ≡ false → count_by runs_general (set ths t y) ≡ count_by runs_general ths
 general_idle ths t helper y lt is idle =
     let x = get_or ths t idle_thread in
     let before : one_if (runs_general x) ≡ 0 = ap (λ o. one_if (is_some x.running && is_none o)) is ∙ ap one_if (none_both (is_some x.running)) in
@@ -158,7 +173,9 @@ running_left z true e = ap (λ o. is_some o && true) e
 running_left z false e = ap (λ o. is_some o && is_none z.helper) e
 
 -- a general work ends
-stands_general_finished : (size : ℕ) (f : Facts) (s : DeskState) (t : ℕ) (task : Task) (outcome : Outcome) → Stands size f s → t < size → (thread_at s t).running ≡ Some task → (thread_at s t).helper ≡ None → Stands size (added (event.Finish t task.id outcome) f) (finished_by t task.id outcome s)
+stands_general_finished : (size : ℕ) (f : Facts) (s : DeskState) (t : ℕ) (task : Task) (outcome : Outcome) → Stands size f s → t < size
+    → (thread_at s t).running ≡ Some task → (thread_at s t).helper ≡ None
+    → Stands size (added (event.Finish t task.id outcome) f) (finished_by t task.id outcome s)
 stands_general_finished size f s t task outcome st exists is free =
     let p : ℕ × Outcome = (task.id, outcome) in
     let x = thread_at s t in
@@ -204,7 +221,9 @@ stands_general_finished size f s t task outcome st exists is free =
     }
 
 -- a helper's work ends, and the helper may be over
-stands_own_finished : (size : ℕ) (f : Facts) (s : DeskState) (t helper : ℕ) (task : Task) (outcome : Outcome) → Stands size f s → t < size → (thread_at s t).running ≡ Some task → (thread_at s t).helper ≡ Some helper → Stands size (added (event.Finish t task.id outcome) f) (finished_by t task.id outcome s)
+stands_own_finished : (size : ℕ) (f : Facts) (s : DeskState) (t helper : ℕ) (task : Task) (outcome : Outcome) → Stands size f s → t < size
+    → (thread_at s t).running ≡ Some task → (thread_at s t).helper ≡ Some helper
+    → Stands size (added (event.Finish t task.id outcome) f) (finished_by t task.id outcome s)
 stands_own_finished size f s t helper task outcome st exists is has =
     let p : ℕ × Outcome = (task.id, outcome) in
     let x = thread_at s t in
@@ -252,10 +271,13 @@ stands_own_finished size f s t helper task outcome st exists is has =
       general = general_stays f w p st.numbered found refl ∙ st.general ∙ sym (general_idle s.threads t helper (without_running x) lt has (running_left z (is_left z) refl));
     }
 
-finished_by_helper : (size : ℕ) (f : Facts) (s : DeskState) (t : ℕ) (task : Task) (outcome : Outcome) (o : Option ℕ) → Stands size f s → t < size → (thread_at s t).running ≡ Some task → (thread_at s t).helper ≡ o → Stands size (added (event.Finish t task.id outcome) f) (finished_by t task.id outcome s)
+finished_by_helper : (size : ℕ) (f : Facts) (s : DeskState) (t : ℕ) (task : Task) (outcome : Outcome) (o : Option ℕ) → Stands size f s → t < size
+    → (thread_at s t).running ≡ Some task → (thread_at s t).helper ≡ o
+    → Stands size (added (event.Finish t task.id outcome) f) (finished_by t task.id outcome s)
 finished_by_helper size f s t task outcome None st lt is e = stands_general_finished size f s t task outcome st lt is e
 finished_by_helper size f s t task outcome (Some helper) st lt is e = stands_own_finished size f s t helper task outcome st lt is e
 
-pub stands_finished : (size : ℕ) (f : Facts) (s : DeskState) (t : ℕ) (task : Task) (outcome : Outcome) → Stands size f s → t < size → (thread_at s t).running ≡ Some task → Stands size (added (event.Finish t task.id outcome) f) (finished_by t task.id outcome s)
+pub stands_finished : (size : ℕ) (f : Facts) (s : DeskState) (t : ℕ) (task : Task) (outcome : Outcome) → Stands size f s → t < size
+    → (thread_at s t).running ≡ Some task → Stands size (added (event.Finish t task.id outcome) f) (finished_by t task.id outcome s)
 stands_finished size f s t task outcome st lt is =
     finished_by_helper size f s t task outcome (thread_at s t).helper st lt is refl

@@ -71,7 +71,8 @@ closed_kept xs x e =
 abbrev facts : Facts → Facts
 facts f = f
 
-same_facts : (f g : Facts) → f.handed ≡ g.handed → f.begun ≡ g.begun → f.finished ≡ g.finished → f.drained ≡ g.drained → f.reserved ≡ g.reserved → f.ended ≡ g.ended → f.submits ≡ g.submits → f.helpers ≡ g.helpers → f.closed ≡ g.closed → f ≡ g
+same_facts : (f g : Facts) → f.handed ≡ g.handed → f.begun ≡ g.begun → f.finished ≡ g.finished → f.drained ≡ g.drained → f.reserved ≡ g.reserved
+    → f.ended ≡ g.ended → f.submits ≡ g.submits → f.helpers ≡ g.helpers → f.closed ≡ g.closed → f ≡ g
 same_facts f g a b c d e h i j k =
     ap (λ x. facts (record { handed = x; begun = f.begun; finished = f.finished; drained = f.drained; reserved = f.reserved; ended = f.ended; submits = f.submits; helpers = f.helpers; closed = f.closed })) a
     ∙ ap (λ x. facts (record { handed = g.handed; begun = x; finished = f.finished; drained = f.drained; reserved = f.reserved; ended = f.ended; submits = f.submits; helpers = f.helpers; closed = f.closed })) b
@@ -92,7 +93,8 @@ grown_answer xs h (Some t) =
     same_facts _ _ (map_kept handed_in xs x refl) (map_kept begun_in xs x refl) (map_kept finished_in xs x refl) (drained_kept xs x refl) (map_last reserved_in xs x _ refl) (map_kept ended_in xs x refl) (count_kept is_submit xs x refl) (count_last is_helper_new xs x refl) (closed_kept xs x refl)
 
 -- an event of no work and no helper
-quiet : (xs : List Event) (x : Event) → handed_in x ≡ None → begun_in x ≡ None → finished_in x ≡ None → drained_in x ≡ [] → reserved_in x ≡ None → ended_in x ≡ None
+quiet : (xs : List Event) (x : Event) → handed_in x ≡ None → begun_in x ≡ None → finished_in x ≡ None → drained_in x ≡ [] → reserved_in x ≡ None
+    → ended_in x ≡ None
     → is_submit x ≡ false → is_helper_new x ≡ false → is_close x ≡ false → facts_of (xs ++ x ∷ []) ≡ facts_of xs
 quiet xs x a b c d e f g h k =
     same_facts _ _ (map_kept handed_in xs x a) (map_kept begun_in xs x b) (map_kept finished_in xs x c) (drained_kept xs x d) (map_kept reserved_in xs x e) (map_kept ended_in xs x f)

@@ -24,12 +24,15 @@ use Rattle.ak_pool.proofs.Starts.{or_not, or_yes}
 use Rattle.ak_pool.proofs.Overs.{held_left, list_left, list_other, stands_vacated, over_by_thread}
 use Rattle.ak_pool.proofs.Finishes.{general_idle, none_both}
 
-map_filter_at : (p : ℕ → Bool) (b : Bool) (x : ℕ × Outcome) (xs : List (ℕ × Outcome)) → map (λ (y : ℕ × Outcome). y.0) (filter (λ y. p y.0) xs) ≡ filter p (map (λ (y : ℕ × Outcome). y.0) xs) → map (λ (y : ℕ × Outcome). y.0) (cond b (x ∷ filter (λ y. p y.0) xs) (filter (λ y. p y.0) xs)) ≡ cond b (x.0 ∷ filter p (map (λ (y : ℕ × Outcome). y.0) xs)) (filter p (map (λ (y : ℕ × Outcome). y.0) xs))
+map_filter_at : (p : ℕ → Bool) (b : Bool) (x : ℕ × Outcome) (xs : List (ℕ × Outcome))
+    → map (λ (y : ℕ × Outcome). y.0) (filter (λ y. p y.0) xs) ≡ filter p (map (λ (y : ℕ × Outcome). y.0) xs)
+    → map (λ (y : ℕ × Outcome). y.0) (cond b (x ∷ filter (λ y. p y.0) xs) (filter (λ y. p y.0) xs)) ≡ cond b (x.0 ∷ filter p (map (λ (y : ℕ × Outcome). y.0) xs)) (filter p (map (λ (y : ℕ × Outcome). y.0) xs))
 map_filter_at p true x xs e = ap (λ ys. x.0 ∷ ys) e
 map_filter_at p false x xs e = e
 
 -- the numbers of what passes a test of the number
-pub map_filter : (p : ℕ → Bool) (xs : List (ℕ × Outcome)) → map (λ (x : ℕ × Outcome). x.0) (filter (λ x. p x.0) xs) ≡ filter p (map (λ (x : ℕ × Outcome). x.0) xs)
+pub map_filter : (p : ℕ → Bool) (xs : List (ℕ × Outcome))
+    → map (λ (x : ℕ × Outcome). x.0) (filter (λ x. p x.0) xs) ≡ filter p (map (λ (x : ℕ × Outcome). x.0) xs)
 map_filter p [] = refl
 map_filter p (x ∷ xs) = map_filter_at p (p x.0) x xs (map_filter p xs)
 
@@ -37,7 +40,8 @@ drained_at : (b c e : Bool) → c ≡ true → (b || cond b e (c || e)) ≡ true
 drained_at true c e h = refl
 drained_at false c e h = ap (λ d. d || e) h
 
-drained_head : (p : ℕ → Bool) (x : ℕ × Outcome) (xs : List (ℕ × Outcome)) (b : Bool) → p x.0 ≡ b → (b || list_any (λ o. o == x.0) (cond (not b) (x.0 ∷ filter (λ id. not (p id)) (map (λ (z : ℕ × Outcome). z.0) xs)) (filter (λ id. not (p id)) (map (λ (z : ℕ × Outcome). z.0) xs)))) ≡ true
+drained_head : (p : ℕ → Bool) (x : ℕ × Outcome) (xs : List (ℕ × Outcome)) (b : Bool) → p x.0 ≡ b
+    → (b || list_any (λ o. o == x.0) (cond (not b) (x.0 ∷ filter (λ id. not (p id)) (map (λ (z : ℕ × Outcome). z.0) xs)) (filter (λ id. not (p id)) (map (λ (z : ℕ × Outcome). z.0) xs)))) ≡ true
 drained_head p x xs true e = refl
 drained_head p x xs false e =
     ap (λ c. c || list_any (λ o. o == x.0) (filter (λ id. not (p id)) (map (λ (z : ℕ × Outcome). z.0) xs))) (eq-eqb x.0 x.0 refl)
@@ -48,13 +52,16 @@ or_more false true true h = refl
 or_more false true false h = refl
 or_more false false c h = absurd (cc)
 
-drained_tail : (p : ℕ → Bool) (x : ℕ × Outcome) (xs : List (ℕ × Outcome)) (y : ℕ × Outcome) (b : Bool) → (p y.0 || list_any (λ o. o == y.0) (filter (λ id. not (p id)) (map (λ (z : ℕ × Outcome). z.0) xs))) ≡ true → (p y.0 || list_any (λ o. o == y.0) (cond (not b) (x.0 ∷ filter (λ id. not (p id)) (map (λ (z : ℕ × Outcome). z.0) xs)) (filter (λ id. not (p id)) (map (λ (z : ℕ × Outcome). z.0) xs)))) ≡ true
+drained_tail : (p : ℕ → Bool) (x : ℕ × Outcome) (xs : List (ℕ × Outcome)) (y : ℕ × Outcome) (b : Bool)
+    → (p y.0 || list_any (λ o. o == y.0) (filter (λ id. not (p id)) (map (λ (z : ℕ × Outcome). z.0) xs))) ≡ true
+    → (p y.0 || list_any (λ o. o == y.0) (cond (not b) (x.0 ∷ filter (λ id. not (p id)) (map (λ (z : ℕ × Outcome). z.0) xs)) (filter (λ id. not (p id)) (map (λ (z : ℕ × Outcome). z.0) xs)))) ≡ true
 drained_tail p x xs y true k = k
 drained_tail p x xs y false k =
     or_more (p y.0) (list_any (λ o. o == y.0) (filter (λ id. not (p id)) (map (λ (z : ℕ × Outcome). z.0) xs))) (x.0 == y.0) k
 
 -- each finished work is drained by now
-all_drained : (p : ℕ → Bool) (xs : List (ℕ × Outcome)) → Each (λ x. (p x.0 || list_any (λ o. o == x.0) (filter (λ id. not (p id)) (map (λ (y : ℕ × Outcome). y.0) xs))) ≡ true) xs
+all_drained : (p : ℕ → Bool) (xs : List (ℕ × Outcome))
+    → Each (λ x. (p x.0 || list_any (λ o. o == x.0) (filter (λ id. not (p id)) (map (λ (y : ℕ × Outcome). y.0) xs))) ≡ true) xs
 all_drained p [] = tt
 all_drained p (x ∷ xs) =
     (drained_head p x xs (p x.0) refl, each_map (λ y. (p y.0 || list_any (λ o. o == y.0) (filter (λ id. not (p id)) (map (λ (z : ℕ × Outcome). z.0) xs))) ≡ true) (λ y. (p y.0 || list_any (λ o. o == y.0) (filter (λ id. not (p id)) (map (λ (z : ℕ × Outcome). z.0) (x ∷ xs)))) ≡ true) (λ y k. drained_tail p x xs y (p x.0) k) xs (all_drained p xs))
@@ -64,7 +71,9 @@ each_id P [] h = tt
 each_id P (x ∷ xs) h = (h.0, each_id P xs h.1)
 
 -- every finished work is fetched
-pub stands_fetched : (size : ℕ) (f : Facts) (s : DeskState) (ids requests : List ℕ) → Stands size f s → ids ≡ filter (λ id. not (is_among f.drained id)) (map (λ (x : ℕ × Outcome). x.0) f.finished) → Stands size (added (event.Drain ids requests) f) (fetched s)
+pub stands_fetched : (size : ℕ) (f : Facts) (s : DeskState) (ids requests : List ℕ) → Stands size f s
+    → ids ≡ filter (λ id. not (is_among f.drained id)) (map (λ (x : ℕ × Outcome). x.0) f.finished)
+    → Stands size (added (event.Drain ids requests) f) (fetched s)
 stands_fetched size f s ids requests st e =
     let owed = filter (λ id. not (is_among f.drained id)) (map (λ (x : ℕ × Outcome). x.0) f.finished) in
     let gone : filter (λ (x : ℕ × Outcome). not (is_among (f.drained ++ owed) x.0)) f.finished ≡ [] =
@@ -119,7 +128,8 @@ known_more : (helpers : ℕ) (o : Option ℕ) → IsKnown helpers o → IsKnown 
 known_more helpers None h = tt
 known_more helpers (Some x) h = omega (arith, h)
 
-granted_more : (size helpers : ℕ) (reserved : List Reserved) → Each (IsGrantedOnce size helpers reserved) reserved → Each (IsGrantedOnce size (helpers + 1) reserved) reserved
+granted_more : (size helpers : ℕ) (reserved : List Reserved) → Each (IsGrantedOnce size helpers reserved) reserved
+    → Each (IsGrantedOnce size (helpers + 1) reserved) reserved
 granted_more size helpers reserved h =
     each_map (IsGrantedOnce size helpers reserved) (IsGrantedOnce size (helpers + 1) reserved) (λ r k. record { known = omega (arith, k.known); exists = k.exists; once = k.once }) reserved h
 
@@ -146,7 +156,8 @@ stands_refused size f s h st =
       general = st.general;
     }
 
-thread_more_at : (o : Option Reserved) (reserved : List Reserved) (r : Reserved) (h t : ℕ) → find (λ (x : Reserved). x.helper == h) reserved ≡ o → option_map (λ (x : Reserved). x.thread) o ≡ Some t → thread_in (reserved ++ r ∷ []) h ≡ Some t
+thread_more_at : (o : Option Reserved) (reserved : List Reserved) (r : Reserved) (h t : ℕ) → find (λ (x : Reserved). x.helper == h) reserved ≡ o
+    → option_map (λ (x : Reserved). x.thread) o ≡ Some t → thread_in (reserved ++ r ∷ []) h ≡ Some t
 thread_more_at None reserved r h t e k = absurd (cc)
 thread_more_at (Some x) reserved r h t e k =
     ap (option_map (λ (x : Reserved). x.thread)) (find_more (λ (x : Reserved). x.helper == h) reserved (r ∷ []) x e) ∙ k
@@ -176,7 +187,8 @@ fresh_ended : (ended : List ℕ) (helpers : ℕ) → Each (λ h. h < helpers) en
 fresh_ended ended helpers h =
     none_any (λ x. x == helpers) ended (each_map (λ x. x < helpers) (λ x. (x == helpers) ≡ false) (λ x k. ne_eqb x helpers (λ e. absurd (omega (arith, e, k)))) ended h)
 
-fresh_granted : (size helpers : ℕ) (reserved : List Reserved) → Each (IsGrantedOnce size helpers reserved) reserved → list_any (λ (r : Reserved). r.helper == helpers) reserved ≡ false
+fresh_granted : (size helpers : ℕ) (reserved : List Reserved) → Each (IsGrantedOnce size helpers reserved) reserved
+    → list_any (λ (r : Reserved). r.helper == helpers) reserved ≡ false
 fresh_granted size helpers reserved h =
     none_any (λ (r : Reserved). r.helper == helpers) reserved (each_map (IsGrantedOnce size helpers reserved) (λ r. (r.helper == helpers) ≡ false) (λ r k. ne_eqb r.helper helpers (λ e. absurd (omega (arith, e, k.known)))) reserved h)
 
@@ -184,7 +196,8 @@ idle_parts : (x : ThreadState) → x.running ≡ None → x.helper ≡ None → 
 idle_parts x e k = ap (λ o. is_some o && is_none x.helper) e
 
 -- a helper is granted a thread that neither runs a work nor is reserved
-pub stands_granted : (size : ℕ) (f : Facts) (s : DeskState) (t : ℕ) → Stands size f s → t < size → (thread_at s t).running ≡ None → (thread_at s t).helper ≡ None → Stands size (added (event.HelperNew s.helpers (Some t)) f) (answered (Some t) s)
+pub stands_granted : (size : ℕ) (f : Facts) (s : DeskState) (t : ℕ) → Stands size f s → t < size → (thread_at s t).running ≡ None
+    → (thread_at s t).helper ≡ None → Stands size (added (event.HelperNew s.helpers (Some t)) f) (answered (Some t) s)
 stands_granted size f s t st exists idle free =
     let h = s.helpers in
     let r : Reserved = record { helper = h; thread = t } in
@@ -245,7 +258,8 @@ pub ended_now : (ended : List ℕ) (h : ℕ) → is_among (ended ++ h ∷ []) h 
 ended_now ended h =
     any_last (λ x. x == h) ended h ∙ ap (λ b. is_among ended h || (b || false)) (eq-eqb h h refl) ∙ or_yes (is_among ended h)
 
-queue_apart : (handed : List Handed) (begun : List Begun) (ended : List ℕ) (helper : ℕ) (o : Option ℕ) (x : ThreadState) → (o ≡ Some helper → ⊥) → IsQueueFor handed begun ended o x → IsQueueFor handed begun (ended ++ helper ∷ []) o x
+queue_apart : (handed : List Handed) (begun : List Begun) (ended : List ℕ) (helper : ℕ) (o : Option ℕ) (x : ThreadState) → (o ≡ Some helper → ⊥)
+    → IsQueueFor handed begun ended o x → IsQueueFor handed begun (ended ++ helper ∷ []) o x
 queue_apart handed begun ended helper None x ne h = h
 queue_apart handed begun ended helper (Some other) x ne h =
     (h.0, h.1 ∙ sym (ended_apart ended helper other (λ e. ne (ap Some (sym e)))))
@@ -255,12 +269,14 @@ left_idle a None c e = refl
 left_idle true (Some x) c e = absurd (cc)
 left_idle false (Some x) c e = absurd (cc)
 
-left_general : (z : ThreadState) (b : Bool) (helper : ℕ) → z.helper ≡ Some helper → is_left z ≡ b → runs_general (cond b (record z { helper = None; ended = false }) z) ≡ false
+left_general : (z : ThreadState) (b : Bool) (helper : ℕ) → z.helper ≡ Some helper → is_left z ≡ b
+    → runs_general (cond b (record z { helper = None; ended = false }) z) ≡ false
 left_general z true helper is e = left_idle z.ended z.running (is_empty_list z.queue) e
 left_general z false helper is e = ap (λ o. is_some z.running && is_none o) is ∙ none_both (is_some z.running)
 
 -- a helper is ended, and may be over
-pub stands_ended : (size : ℕ) (f : Facts) (s : DeskState) (helper t : ℕ) → Stands size f s → IsServing size f s helper t → Stands size (added (event.HelperEnd helper) f) (helper_left t s)
+pub stands_ended : (size : ℕ) (f : Facts) (s : DeskState) (helper t : ℕ) → Stands size f s → IsServing size f s helper t
+    → Stands size (added (event.HelperEnd helper) f) (helper_left t s)
 stands_ended size f s helper t st on =
     let ended = f.ended ++ helper ∷ [] in
     let x = thread_at s t in

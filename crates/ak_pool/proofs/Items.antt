@@ -49,7 +49,8 @@ pub filter_same : {A : Type 0} (p q : A → Bool) (xs : List A) → Each (λ x. 
 filter_same p q [] h = refl
 filter_same p q (x ∷ xs) h = cond_same (p x) (q x) x (filter p xs) (filter q xs) h.0 (filter_same p q xs h.1)
 
-filter_cond : {A : Type 0} (p q : A → Bool) (b : Bool) (x : A) (xs : List A) → filter q (filter p xs) ≡ filter (λ y. p y && q y) xs → filter q (cond b (x ∷ filter p xs) (filter p xs)) ≡ cond (b && q x) (x ∷ filter (λ y. p y && q y) xs) (filter (λ y. p y && q y) xs)
+filter_cond : {A : Type 0} (p q : A → Bool) (b : Bool) (x : A) (xs : List A) → filter q (filter p xs) ≡ filter (λ y. p y && q y) xs
+    → filter q (cond b (x ∷ filter p xs) (filter p xs)) ≡ cond (b && q x) (x ∷ filter (λ y. p y && q y) xs) (filter (λ y. p y && q y) xs)
 filter_cond p q true x xs e = cond_same (q x) (q x) x (filter q (filter p xs)) (filter (λ y. p y && q y) xs) refl e
 filter_cond p q false x xs e = e
 
@@ -66,7 +67,8 @@ pub filter_none : {A : Type 0} (p : A → Bool) (xs : List A) → Each (λ x. p 
 filter_none p [] h = refl
 filter_none p (x ∷ xs) h = cond_same (p x) false x (filter p xs) [] h.0 (filter_none p xs h.1)
 
-any_from_find_at : {A : Type 0} (p : A → Bool) (b : Bool) (x : A) (xs : List A) → is_some (find p xs) ≡ list_any p xs → is_some (cond b (Some x) (find p xs)) ≡ (b || list_any p xs)
+any_from_find_at : {A : Type 0} (p : A → Bool) (b : Bool) (x : A) (xs : List A) → is_some (find p xs) ≡ list_any p xs
+    → is_some (cond b (Some x) (find p xs)) ≡ (b || list_any p xs)
 any_from_find_at p true x xs e = refl
 any_from_find_at p false x xs e = e
 
@@ -78,7 +80,8 @@ any_from_find p (x ∷ xs) = any_from_find_at p (p x) x xs (any_from_find p xs)
 pub some_same : {A : Type 0} (x a : A) → Some x ≡ Some a → x ≡ a
 some_same x a h = cc
 
-find_at_passes : {A : Type 0} (p : A → Bool) (b : Bool) (x a : A) (xs : List A) → p x ≡ b → (find p xs ≡ Some a → p a ≡ true) → cond b (Some x) (find p xs) ≡ Some a → p a ≡ true
+find_at_passes : {A : Type 0} (p : A → Bool) (b : Bool) (x a : A) (xs : List A) → p x ≡ b → (find p xs ≡ Some a → p a ≡ true)
+    → cond b (Some x) (find p xs) ≡ Some a → p a ≡ true
 find_at_passes p true x a xs e f h = subst (λ y. p y ≡ true) (some_same x a h) e
 find_at_passes p false x a xs e f h = f h
 
@@ -86,7 +89,8 @@ pub find_passes : {A : Type 0} (p : A → Bool) (xs : List A) (a : A) → find p
 find_passes p [] a h = absurd (cc)
 find_passes p (x ∷ xs) a h = find_at_passes p (p x) x a xs refl (find_passes p xs a) h
 
-each_find_at : {A : Type 0} (P : A → Type 0) (p : A → Bool) (b : Bool) (x a : A) (xs : List A) → P x → (find p xs ≡ Some a → P a) → cond b (Some x) (find p xs) ≡ Some a → P a
+each_find_at : {A : Type 0} (P : A → Type 0) (p : A → Bool) (b : Bool) (x a : A) (xs : List A) → P x → (find p xs ≡ Some a → P a)
+    → cond b (Some x) (find p xs) ≡ Some a → P a
 each_find_at P p true x a xs h f e = subst P (some_same x a e) h
 each_find_at P p false x a xs h f e = f e
 
@@ -109,7 +113,8 @@ find_none p [] e = tt
 find_none p (x ∷ xs) e =
     let h = find_none_at (p x) x (find p xs) e in (h.0, find_none p xs h.1)
 
-any_at : {A : Type 0} (P : A → Type 0) (p : A → Bool) (b : Bool) (x : A) (xs : List A) → p x ≡ b → P x → (list_any p xs ≡ true → (y : A) × P y × (p y ≡ true)) → (b || list_any p xs) ≡ true → (y : A) × P y × (p y ≡ true)
+any_at : {A : Type 0} (P : A → Type 0) (p : A → Bool) (b : Bool) (x : A) (xs : List A) → p x ≡ b → P x
+    → (list_any p xs ≡ true → (y : A) × P y × (p y ≡ true)) → (b || list_any p xs) ≡ true → (y : A) × P y × (p y ≡ true)
 any_at P p true x xs e h f k = (x, h, e)
 any_at P p false x xs e h f k = f k
 
@@ -136,7 +141,8 @@ all_same p q [] h = refl
 all_same p q (x ∷ xs) h =
     ap (λ b. b && list_all p xs) h.0 ∙ ap (λ b. q x && b) (all_same p q xs h.1)
 
-all_each_at : {A : Type 0} (p : A → Bool) (b : Bool) (x : A) (xs : List A) → p x ≡ b → (list_all p xs ≡ true → Each (λ y. p y ≡ true) xs) → (b && list_all p xs) ≡ true → (p x ≡ true) × Each (λ y. p y ≡ true) xs
+all_each_at : {A : Type 0} (p : A → Bool) (b : Bool) (x : A) (xs : List A) → p x ≡ b → (list_all p xs ≡ true → Each (λ y. p y ≡ true) xs)
+    → (b && list_all p xs) ≡ true → (p x ≡ true) × Each (λ y. p y ≡ true) xs
 all_each_at p true x xs e f h = (e, f h)
 all_each_at p false x xs e f h = absurd (cc)
 
@@ -194,7 +200,8 @@ some_at (Some x) e = (x, refl)
 pub some_found : {A : Type 0} (p : A → Bool) (xs : List A) → list_any p xs ≡ true → (a : A) × (find p xs ≡ Some a)
 some_found p xs e = some_at (find p xs) (any_from_find p xs ∙ e)
 
-unfilter_at : {A : Type 0} (P : A → Type 0) (p : A → Bool) (b : Bool) (x : A) (ys : List A) → p x ≡ b → Each P (cond b (x ∷ ys) ys) → (p x ≡ true → P x) × Each P ys
+unfilter_at : {A : Type 0} (P : A → Type 0) (p : A → Bool) (b : Bool) (x : A) (ys : List A) → p x ≡ b → Each P (cond b (x ∷ ys) ys)
+    → (p x ≡ true → P x) × Each P ys
 unfilter_at P p true x ys e h = (λ _. h.0, h.1)
 unfilter_at P p false x ys e h = (λ k. absurd (cc (e, k)), h)
 

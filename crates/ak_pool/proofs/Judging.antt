@@ -53,17 +53,20 @@ find_first p (suc n) i lt e h =
           ∙ ap (λ o. option_or o (cond (p n) (Some n) None)) (find_first p n i (omega arith) e h)
     ]
 
-find_place_at : {A : Type 0} (p : ℕ → Bool) (q : A → Bool) (xs : List A) (d : A) (o : Option ℕ) → position q xs ≡ o → ((t : ℕ) → t < length xs → p t ≡ q (get_or xs t d)) → find p (numbers_below (length xs)) ≡ o
+find_place_at : {A : Type 0} (p : ℕ → Bool) (q : A → Bool) (xs : List A) (d : A) (o : Option ℕ) → position q xs ≡ o
+    → ((t : ℕ) → t < length xs → p t ≡ q (get_or xs t d)) → find p (numbers_below (length xs)) ≡ o
 find_place_at p q xs d None e h = find_below p (length xs) (λ t lt. h t lt ∙ position_none q xs t d e lt)
 find_place_at p q xs d (Some i) e h =
     let k = position-Some q xs i d e in
     find_first p (length xs) i k.0 (h i k.0 ∙ k.1) (λ t lt. h t (omega (arith, k.0)) ∙ k.2 t lt)
 
 -- the least number that passes is the place of the first item that does
-find_place : {A : Type 0} (p : ℕ → Bool) (q : A → Bool) (xs : List A) (d : A) → ((t : ℕ) → t < length xs → p t ≡ q (get_or xs t d)) → find p (numbers_below (length xs)) ≡ position q xs
+find_place : {A : Type 0} (p : ℕ → Bool) (q : A → Bool) (xs : List A) (d : A) → ((t : ℕ) → t < length xs → p t ≡ q (get_or xs t d))
+    → find p (numbers_below (length xs)) ≡ position q xs
 find_place p q xs d h = find_place_at p q xs d (position q xs) refl h
 
-count_below : {A : Type 0} (p : ℕ → Bool) (q : A → Bool) (xs : List A) (d : A) (n : ℕ) → n ≤ length xs → ((t : ℕ) → t < length xs → p t ≡ q (get_or xs t d)) → count_by p (numbers_below n) ≡ count_by q (take n xs)
+count_below : {A : Type 0} (p : ℕ → Bool) (q : A → Bool) (xs : List A) (d : A) (n : ℕ) → n ≤ length xs
+    → ((t : ℕ) → t < length xs → p t ≡ q (get_or xs t d)) → count_by p (numbers_below n) ≡ count_by q (take n xs)
 count_below p q xs d zero le h = refl
 count_below p q xs d (suc n) le h =
     sum_by_push (λ t. one_if (p t)) (numbers_below n) n
@@ -72,16 +75,19 @@ count_below p q xs d (suc n) le h =
     ∙ sym (sum_by_more (λ x. one_if (q x)) xs n d (omega arith))
     ∙ ap (λ k. count_by q (take k xs)) (add-one n)
 
-count_all : {A : Type 0} (p : ℕ → Bool) (q : A → Bool) (xs : List A) (d : A) → ((t : ℕ) → t < length xs → p t ≡ q (get_or xs t d)) → count_by p (numbers_below (length xs)) ≡ count_by q xs
+count_all : {A : Type 0} (p : ℕ → Bool) (q : A → Bool) (xs : List A) (d : A) → ((t : ℕ) → t < length xs → p t ≡ q (get_or xs t d))
+    → count_by p (numbers_below (length xs)) ≡ count_by q xs
 count_all p q xs d h =
     count_below p q xs d (length xs) (omega arith) h ∙ ap (count_by q) (take_all (length xs) xs (omega arith))
 
 -- whether a thread runs a work and whether it is reserved, by its row
-runs_at : (begun : List Begun) (finished : List (ℕ × Outcome)) (t : ℕ) (o : Option Task) → running_on begun finished t ≡ begun_list t o → list_any (λ (b : Begun). b.thread == t && not (has_finished finished b.id)) begun ≡ is_some o
+runs_at : (begun : List Begun) (finished : List (ℕ × Outcome)) (t : ℕ) (o : Option Task) → running_on begun finished t ≡ begun_list t o
+    → list_any (λ (b : Begun). b.thread == t && not (has_finished finished b.id)) begun ≡ is_some o
 runs_at begun finished t None e = any_by_filter (λ (b : Begun). b.thread == t && not (has_finished finished b.id)) begun e
 runs_at begun finished t (Some task) e = any_by_one (λ (b : Begun). b.thread == t && not (has_finished finished b.id)) begun [] _ e
 
-held_at : (f : Facts) (t : ℕ) (o : Option ℕ) → held_on f.reserved f.ended f.finished f.handed t ≡ reserved_list t o → list_any (λ (r : Reserved). r.thread == t && not (over_in f.ended f.finished f.handed r.helper)) f.reserved ≡ is_some o
+held_at : (f : Facts) (t : ℕ) (o : Option ℕ) → held_on f.reserved f.ended f.finished f.handed t ≡ reserved_list t o
+    → list_any (λ (r : Reserved). r.thread == t && not (over_in f.ended f.finished f.handed r.helper)) f.reserved ≡ is_some o
 held_at f t None e = any_by_filter (λ (r : Reserved). r.thread == t && not (over_in f.ended f.finished f.handed r.helper)) f.reserved e
 held_at f t (Some h) e = any_by_one (λ (r : Reserved). r.thread == t && not (over_in f.ended f.finished f.handed r.helper)) f.reserved [] _ e
 
@@ -108,7 +114,8 @@ waiting_is size f s st =
     sym (length-filter (λ w. is_general w && not (has_begun f.begun w.id)) f.handed) ∙ sym (length-map (filter (λ w. is_general w && not (has_begun f.begun w.id)) f.handed) task_of) ∙ ap length (sym st.waiting)
 
 -- how many threads a further helper may choose from
-pub free_is : (size : ℕ) (f : Facts) (s : DeskState) → Stands size f s → (size - count_by (held_by f) (numbers_below size) - general_in f.handed f.begun f.finished - count_by (λ w. is_general w && not (has_begun f.begun w.id)) f.handed) ≡ free_of s
+pub free_is : (size : ℕ) (f : Facts) (s : DeskState) → Stands size f s
+    → (size - count_by (held_by f) (numbers_below size) - general_in f.handed f.begun f.finished - count_by (λ w. is_general w && not (has_begun f.begun w.id)) f.handed) ≡ free_of s
 free_is size f s st =
     let taken : count_by (held_by f) (numbers_below (length s.threads)) ≡ count_by is_taken s.threads = count_all (held_by f) is_taken s.threads idle_thread (λ t k. held_is size f s t st (omega (arith, k, st.size))) in
     ap (λ n. n - count_by (held_by f) (numbers_below n) - general_in f.handed f.begun f.finished - count_by (λ w. is_general w && not (has_begun f.begun w.id)) f.handed) (sym st.size)
@@ -117,7 +124,8 @@ free_is size f s st =
     ∙ ap (λ n. length s.threads - count_by is_taken s.threads - count_by runs_general s.threads - n) (waiting_is size f s st)
 
 -- the answer to a further helper
-pub answer_is : (size : ℕ) (f : Facts) (s : DeskState) → Stands size f s → cond ((size - count_by (held_by f) (numbers_below size) - general_in f.handed f.begun f.finished - count_by (λ w. is_general w && not (has_begun f.begun w.id)) f.handed) == 0) None (find (λ t. not (runs_on f t) && not (held_by f t)) (numbers_below size)) ≡ answer_of s
+pub answer_is : (size : ℕ) (f : Facts) (s : DeskState) → Stands size f s
+    → cond ((size - count_by (held_by f) (numbers_below size) - general_in f.handed f.begun f.finished - count_by (λ w. is_general w && not (has_begun f.begun w.id)) f.handed) == 0) None (find (λ t. not (runs_on f t) && not (held_by f t)) (numbers_below size)) ≡ answer_of s
 answer_is size f s st =
     let idle : find (λ t. not (runs_on f t) && not (held_by f t)) (numbers_below (length s.threads)) ≡ position is_idle s.threads =
     find_place (λ t. not (runs_on f t) && not (held_by f t)) is_idle s.threads idle_thread (λ t k. ap (λ b. not b && not (held_by f t)) (runs_is size f s t st (omega (arith, k, st.size))) ∙ ap (λ b. not (is_some (thread_at s t).running) && not b) (held_is size f s t st (omega (arith, k, st.size))) ∙ not_some (thread_at s t).running (thread_at s t).helper) in

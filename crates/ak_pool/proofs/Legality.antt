@@ -37,7 +37,9 @@ one_passes p xs y e = unfilter (λ x. x ≡ y) p xs (subst (λ ys. Each (λ x. x
 and_now : (a b : Bool) → a ≡ true → b ≡ false → (a && not b) ≡ true
 and_now a b e k = ap (λ c. c && not b) e ∙ ap not k
 
-holds_at : (f : Facts) (t helper : ℕ) (r : Reserved) (o : Option ℕ) → held_on f.reserved f.ended f.finished f.handed t ≡ reserved_list t o → find (λ (x : Reserved). x.helper == helper) f.reserved ≡ Some r → r.thread ≡ t → over_in f.ended f.finished f.handed helper ≡ false → o ≡ Some helper
+holds_at : (f : Facts) (t helper : ℕ) (r : Reserved) (o : Option ℕ) → held_on f.reserved f.ended f.finished f.handed t ≡ reserved_list t o
+    → find (λ (x : Reserved). x.helper == helper) f.reserved ≡ Some r → r.thread ≡ t → over_in f.ended f.finished f.handed helper ≡ false
+    → o ≡ Some helper
 holds_at f t helper r None held found on goes_on =
     let none = each_find (λ (x : Reserved). (x.thread == t && not (over_in f.ended f.finished f.handed x.helper)) ≡ false) (λ (x : Reserved). x.helper == helper) f.reserved r (filter_nil (λ (x : Reserved). x.thread == t && not (over_in f.ended f.finished f.handed x.helper)) f.reserved held) found in
     let id : r.helper ≡ helper = eqb-true r.helper helper (find_passes (λ (x : Reserved). x.helper == helper) f.reserved r found) in
@@ -48,12 +50,15 @@ holds_at f t helper r (Some h) held found on goes_on =
     let same = one (and_now (r.thread == t) (over_in f.ended f.finished f.handed r.helper) (eq-eqb r.thread t on) (ap (over_in f.ended f.finished f.handed) id ∙ goes_on)) in
     ap Some (sym (ap (λ (x : Reserved). x.helper) same) ∙ id)
 
-thread_found : (reserved : List Reserved) (helper t : ℕ) (o : Option Reserved) → find (λ (x : Reserved). x.helper == helper) reserved ≡ o → option_map (λ (x : Reserved). x.thread) o ≡ Some t → (r : Reserved) × (find (λ (x : Reserved). x.helper == helper) reserved ≡ Some r) × (r.thread ≡ t)
+thread_found : (reserved : List Reserved) (helper t : ℕ) (o : Option Reserved) → find (λ (x : Reserved). x.helper == helper) reserved ≡ o
+    → option_map (λ (x : Reserved). x.thread) o ≡ Some t
+    → (r : Reserved) × (find (λ (x : Reserved). x.helper == helper) reserved ≡ Some r) × (r.thread ≡ t)
 thread_found reserved helper t None e k = absurd (cc)
 thread_found reserved helper t (Some r) e k = (r, e, some_same r.thread t k)
 
 -- the thread of a helper that is not over
-holds : (size : ℕ) (f : Facts) (s : DeskState) (t helper : ℕ) → Stands size f s → thread_in f.reserved helper ≡ Some t → over_in f.ended f.finished f.handed helper ≡ false → (t < size) × ((thread_at s t).helper ≡ Some helper)
+holds : (size : ℕ) (f : Facts) (s : DeskState) (t helper : ℕ) → Stands size f s → thread_in f.reserved helper ≡ Some t
+    → over_in f.ended f.finished f.handed helper ≡ false → (t < size) × ((thread_at s t).helper ≡ Some helper)
 holds size f s t helper st on goes_on =
     let k = thread_found f.reserved helper t (find (λ (x : Reserved). x.helper == helper) f.reserved) refl on in
     let granted = each_find (IsGrantedOnce size f.helpers f.reserved) (λ (x : Reserved). x.helper == helper) f.reserved k.0 st.granted_once k.1 in
@@ -61,7 +66,9 @@ holds size f s t helper st on goes_on =
     (lt, holds_at f t helper k.0 (thread_at s t).helper (st.each_thread t lt).held k.1 k.2 goes_on)
 
 -- a helper that is granted and not ended
-pub active_served : (size : ℕ) (f : Facts) (s : DeskState) (helper : ℕ) → Stands size f s → (list_any (λ (r : Reserved). r.helper == helper) f.reserved && not (is_among f.ended helper)) ≡ true → is_some (position (serves helper) s.threads) ≡ true
+pub active_served : (size : ℕ) (f : Facts) (s : DeskState) (helper : ℕ) → Stands size f s
+    → (list_any (λ (r : Reserved). r.helper == helper) f.reserved && not (is_among f.ended helper)) ≡ true
+    → is_some (position (serves helper) s.threads) ≡ true
 active_served size f s helper st e =
     let parts = and_both (list_any (λ (r : Reserved). r.helper == helper) f.reserved) (is_among f.ended helper) e in
     let k = some_found (λ (r : Reserved). r.helper == helper) f.reserved parts.0 in
@@ -72,7 +79,8 @@ active_served size f s helper st e =
     position_some (serves helper) s.threads k.0.thread idle_thread (omega (arith, there.0, st.size))
     (and_now (is_that helper x.helper) x.ended (ap (is_that helper) there.1 ∙ eq-eqb helper helper refl) (queue.1 ∙ parts.1))
 
-served_at : (size : ℕ) (f : Facts) (s : DeskState) (helper : ℕ) (o : Option ℕ) → Stands size f s → position (serves helper) s.threads ≡ o → is_some o ≡ true → (list_any (λ (r : Reserved). r.helper == helper) f.reserved && not (is_among f.ended helper)) ≡ true
+served_at : (size : ℕ) (f : Facts) (s : DeskState) (helper : ℕ) (o : Option ℕ) → Stands size f s → position (serves helper) s.threads ≡ o
+    → is_some o ≡ true → (list_any (λ (r : Reserved). r.helper == helper) f.reserved && not (is_among f.ended helper)) ≡ true
 served_at size f s helper None st e k = absurd (cc)
 served_at size f s helper (Some p) st e k =
     let on = serving_at size f s helper p st e in
@@ -80,7 +88,8 @@ served_at size f s helper (Some p) st e k =
     and_now (list_any (λ (x : Reserved). x.helper == helper) f.reserved) (is_among f.ended helper)
     (sym (any_from_find (λ (x : Reserved). x.helper == helper) f.reserved) ∙ ap is_some r.1) on.not_ended
 
-served_active : (size : ℕ) (f : Facts) (s : DeskState) (helper : ℕ) → Stands size f s → is_some (position (serves helper) s.threads) ≡ true → (list_any (λ (r : Reserved). r.helper == helper) f.reserved && not (is_among f.ended helper)) ≡ true
+served_active : (size : ℕ) (f : Facts) (s : DeskState) (helper : ℕ) → Stands size f s → is_some (position (serves helper) s.threads) ≡ true
+    → (list_any (λ (r : Reserved). r.helper == helper) f.reserved && not (is_among f.ended helper)) ≡ true
 served_active size f s helper st e = served_at size f s helper (position (serves helper) s.threads) st refl e
 
 and_yes : (a b : Bool) → a ≡ true → b ≡ true → (a && b) ≡ true
@@ -91,7 +100,10 @@ map_nil g [] e = refl
 map_nil g (x ∷ xs) e = absurd (cc)
 
 -- the first work that waits is the one before which none waits
-front_cases : (handed : List Handed) (begun : List Begun) (o : Option ℕ) (id : ℕ) (w : Handed) (queue : List Task) → AreNumbered 0 handed → queue ≡ unbegun handed begun o → work_in handed id ≡ Some w → is_of o w ≡ true → has_begun begun id ≡ false → Each (λ v. (is_of o v && nat_lt v.id id) ≡ true → has_begun begun v.id ≡ true) handed → option_map (λ (t : Task). t.id) (first_of queue) ≡ Some id
+front_cases : (handed : List Handed) (begun : List Begun) (o : Option ℕ) (id : ℕ) (w : Handed) (queue : List Task) → AreNumbered 0 handed
+    → queue ≡ unbegun handed begun o → work_in handed id ≡ Some w → is_of o w ≡ true → has_begun begun id ≡ false
+    → Each (λ v. (is_of o v && nat_lt v.id id) ≡ true → has_begun begun v.id ≡ true) handed
+    → option_map (λ (t : Task). t.id) (first_of queue) ≡ Some id
 front_cases handed begun o id w [] num q found of no_start before =
     let none = filter_nil (waits begun o) handed (map_nil task_of (filter (waits begun o) handed) (sym q)) in
     let here = each_find (λ v. waits begun o v ≡ false) (λ (v : Handed). v.id == id) handed w none found in
@@ -111,7 +123,8 @@ front_cases handed begun o id w (x ∷ xs) num q found of no_start before =
     ap Some (omega (arith, le, ge, v_id, w_id))
 
 -- each work of the helper before the first that waits is begun
-begun_before : (handed : List Handed) (begun : List Begun) (o : Option ℕ) (task : Task) (rest : List Task) → AreNumbered 0 handed → IsFront handed begun o task rest → Each (λ v. (is_of o v && nat_lt v.id task.id) ≡ true → has_begun begun v.id ≡ true) handed
+begun_before : (handed : List Handed) (begun : List Begun) (o : Option ℕ) (task : Task) (rest : List Task) → AreNumbered 0 handed
+    → IsFront handed begun o task rest → Each (λ v. (is_of o v && nat_lt v.id task.id) ≡ true → has_begun begun v.id ≡ true) handed
 begun_before handed begun o task rest num front =
     let w = front.work in
     let w_id : w.id ≡ task.id = ap (λ (t : Task). t.id) front.same in
@@ -126,7 +139,10 @@ some_not None e = refl
 some_not (Some x) e = absurd (cc)
 
 -- a thread that may start a general work
-start_general : (size : ℕ) (f : Facts) (s : DeskState) (t id : ℕ) (w : Handed) → Stands size f s → t < size → work_in f.handed id ≡ Some w → w.helper ≡ None → has_begun f.begun id ≡ false → runs_on f t ≡ false → held_by f t ≡ false → list_all (λ v. has_begun f.begun v.id) (filter (λ v. is_general v && nat_lt v.id id) f.handed) ≡ true → (t < length s.threads) × ((thread_at s t).running ≡ None) × (option_map (λ (task : Task). task.id) (next_of s t) ≡ Some id)
+start_general : (size : ℕ) (f : Facts) (s : DeskState) (t id : ℕ) (w : Handed) → Stands size f s → t < size → work_in f.handed id ≡ Some w
+    → w.helper ≡ None → has_begun f.begun id ≡ false → runs_on f t ≡ false → held_by f t ≡ false
+    → list_all (λ v. has_begun f.begun v.id) (filter (λ v. is_general v && nat_lt v.id id) f.handed) ≡ true
+    → (t < length s.threads) × ((thread_at s t).running ≡ None) × (option_map (λ (task : Task). task.id) (next_of s t) ≡ Some id)
 start_general size f s t id w st lt found free no_start idle unheld before =
     let x = thread_at s t in
     let running = some_not x.running (sym (runs_is size f s t st lt) ∙ idle) in
@@ -137,7 +153,8 @@ start_general size f s t id w st lt found free no_start idle unheld before =
           ∙ front_cases f.handed f.begun None id w s.waiting st.numbered st.waiting found (ap is_none free) no_start (unfilter (λ v. has_begun f.begun v.id ≡ true) (λ v. is_general v && nat_lt v.id id) f.handed (all_each (λ v. has_begun f.begun v.id) (filter (λ v. is_general v && nat_lt v.id id) f.handed) before)),
     )
 
-finished_begun : (begun : List Begun) (finished : List (ℕ × Outcome)) (id : ℕ) → Each (λ x. has_begun begun x.0 ≡ true) finished → has_finished finished id ≡ true → has_begun begun id ≡ true
+finished_begun : (begun : List Begun) (finished : List (ℕ × Outcome)) (id : ℕ) → Each (λ x. has_begun begun x.0 ≡ true) finished
+    → has_finished finished id ≡ true → has_begun begun id ≡ true
 finished_begun begun finished id first e =
     true_from_ne_false (has_begun begun id) (λ no_start. absurd (cc (unfinished begun finished id first no_start, e)))
 
@@ -146,7 +163,10 @@ and_no true = refl
 and_no false = refl
 
 -- a thread that may start its helper's work
-pub start_own : (size : ℕ) (f : Facts) (s : DeskState) (t id helper : ℕ) (w : Handed) → Stands size f s → work_in f.handed id ≡ Some w → w.helper ≡ Some helper → has_begun f.begun id ≡ false → thread_in f.reserved helper ≡ Some t → runs_on f t ≡ false → list_all (λ v. has_finished f.finished v.id) (filter (λ v. is_for helper v && nat_lt v.id id) f.handed) ≡ true → (t < length s.threads) × ((thread_at s t).running ≡ None) × (option_map (λ (task : Task). task.id) (next_of s t) ≡ Some id)
+pub start_own : (size : ℕ) (f : Facts) (s : DeskState) (t id helper : ℕ) (w : Handed) → Stands size f s → work_in f.handed id ≡ Some w
+    → w.helper ≡ Some helper → has_begun f.begun id ≡ false → thread_in f.reserved helper ≡ Some t → runs_on f t ≡ false
+    → list_all (λ v. has_finished f.finished v.id) (filter (λ v. is_for helper v && nat_lt v.id id) f.handed) ≡ true
+    → (t < length s.threads) × ((thread_at s t).running ≡ None) × (option_map (λ (task : Task). task.id) (next_of s t) ≡ Some id)
 start_own size f s t id helper w st found for_helper no_start on idle before =
     let x = thread_at s t in
     let of : is_for helper w ≡ true = ap (is_that helper) for_helper ∙ eq-eqb helper helper refl in
@@ -178,14 +198,16 @@ StartsAt size f t id None = ⊥
 StartsAt size f t id (Some w) = StartsBy size f t id w w.helper
 
 -- the work that is next on the thread may start
-next_general : (size : ℕ) (f : Facts) (s : DeskState) (t : ℕ) (task : Task) → Stands size f s → t < size → (thread_at s t).running ≡ None → (thread_at s t).helper ≡ None → first_of s.waiting ≡ Some task → StartsAt size f t task.id (work_in f.handed task.id)
+next_general : (size : ℕ) (f : Facts) (s : DeskState) (t : ℕ) (task : Task) → Stands size f s → t < size → (thread_at s t).running ≡ None
+    → (thread_at s t).helper ≡ None → first_of s.waiting ≡ Some task → StartsAt size f t task.id (work_in f.handed task.id)
 next_general size f s t task st lt idle free first =
     let front = front_of f.handed f.begun None task (rest_of s.waiting) st.numbered (sym st.waiting ∙ cons_of s.waiting task first) in
     let w = front.work in
     subst (StartsAt size f t task.id) (sym front.found) (subst (StartsBy size f t task.id w) (sym (of_is None w front.of))
     (lt, front.unbegun, runs_is size f s t st lt ∙ ap is_some idle, held_is size f s t st lt ∙ ap is_some free, all_filter (λ v. is_general v && nat_lt v.id task.id) (λ v. has_begun f.begun v.id) f.handed (begun_before f.handed f.begun None task (rest_of s.waiting) st.numbered front)))
 
-next_own : (size : ℕ) (f : Facts) (s : DeskState) (t helper : ℕ) (task : Task) → Stands size f s → t < size → (thread_at s t).running ≡ None → (thread_at s t).helper ≡ Some helper → first_of (thread_at s t).queue ≡ Some task → StartsAt size f t task.id (work_in f.handed task.id)
+next_own : (size : ℕ) (f : Facts) (s : DeskState) (t helper : ℕ) (task : Task) → Stands size f s → t < size → (thread_at s t).running ≡ None
+    → (thread_at s t).helper ≡ Some helper → first_of (thread_at s t).queue ≡ Some task → StartsAt size f t task.id (work_in f.handed task.id)
 next_own size f s t helper task st lt idle has first =
     let x = thread_at s t in
     let row = st.each_thread t lt in
@@ -199,27 +221,35 @@ next_own size f s t helper task st lt idle has first =
     subst (StartsAt size f t task.id) (sym front.found) (subst (StartsBy size f t task.id w) (sym (of_is (Some helper) w front.of))
     (of.thread, front.unbegun, runs_is size f s t st lt ∙ ap is_some idle, all_filter (λ v. is_for helper v && nat_lt v.id task.id) (λ v. has_finished f.finished v.id) f.handed done))
 
-next_by_helper : (size : ℕ) (f : Facts) (s : DeskState) (t : ℕ) (task : Task) (o : Option ℕ) → Stands size f s → t < size → (thread_at s t).running ≡ None → (thread_at s t).helper ≡ o → next_by o s t ≡ Some task → StartsAt size f t task.id (work_in f.handed task.id)
+next_by_helper : (size : ℕ) (f : Facts) (s : DeskState) (t : ℕ) (task : Task) (o : Option ℕ) → Stands size f s → t < size
+    → (thread_at s t).running ≡ None → (thread_at s t).helper ≡ o → next_by o s t ≡ Some task → StartsAt size f t task.id (work_in f.handed task.id)
 next_by_helper size f s t task None st lt idle has next = next_general size f s t task st lt idle has next
 next_by_helper size f s t task (Some helper) st lt idle has next = next_own size f s t helper task st lt idle has next
 
-pub next_starts : (size : ℕ) (f : Facts) (s : DeskState) (t : ℕ) (task : Task) → Stands size f s → t < size → (thread_at s t).running ≡ None → next_of s t ≡ Some task → StartsAt size f t task.id (work_in f.handed task.id)
+pub next_starts : (size : ℕ) (f : Facts) (s : DeskState) (t : ℕ) (task : Task) → Stands size f s → t < size → (thread_at s t).running ≡ None
+    → next_of s t ≡ Some task → StartsAt size f t task.id (work_in f.handed task.id)
 next_starts size f s t task st lt idle next =
     next_by_helper size f s t task (thread_at s t).helper st lt idle refl next
 
 -- what may start on the thread is next
-starts_by : (size : ℕ) (f : Facts) (s : DeskState) (t id : ℕ) (w : Handed) (o : Option ℕ) → Stands size f s → work_in f.handed id ≡ Some w → w.helper ≡ o → StartsBy size f t id w o → (t < length s.threads) × ((thread_at s t).running ≡ None) × (option_map (λ (task : Task). task.id) (next_of s t) ≡ Some id)
+starts_by : (size : ℕ) (f : Facts) (s : DeskState) (t id : ℕ) (w : Handed) (o : Option ℕ) → Stands size f s → work_in f.handed id ≡ Some w
+    → w.helper ≡ o → StartsBy size f t id w o
+    → (t < length s.threads) × ((thread_at s t).running ≡ None) × (option_map (λ (task : Task). task.id) (next_of s t) ≡ Some id)
 starts_by size f s t id w None st found is h = start_general size f s t id w st h.0 found is h.1 h.2 h.3 h.4
 starts_by size f s t id w (Some helper) st found is h = start_own size f s t id helper w st found is h.1 h.0 h.2 h.3
 
-starts_some : (size : ℕ) (f : Facts) (s : DeskState) (t id : ℕ) (o : Option Handed) → Stands size f s → work_in f.handed id ≡ o → StartsAt size f t id o → (t < length s.threads) × ((thread_at s t).running ≡ None) × (option_map (λ (task : Task). task.id) (next_of s t) ≡ Some id)
+starts_some : (size : ℕ) (f : Facts) (s : DeskState) (t id : ℕ) (o : Option Handed) → Stands size f s → work_in f.handed id ≡ o
+    → StartsAt size f t id o
+    → (t < length s.threads) × ((thread_at s t).running ≡ None) × (option_map (λ (task : Task). task.id) (next_of s t) ≡ Some id)
 starts_some size f s t id None st found h = absurd h
 starts_some size f s t id (Some w) st found h = starts_by size f s t id w w.helper st found refl h
 
-pub starts_next : (size : ℕ) (f : Facts) (s : DeskState) (t id : ℕ) → Stands size f s → StartsAt size f t id (work_in f.handed id) → (t < length s.threads) × ((thread_at s t).running ≡ None) × (option_map (λ (task : Task). task.id) (next_of s t) ≡ Some id)
+pub starts_next : (size : ℕ) (f : Facts) (s : DeskState) (t id : ℕ) → Stands size f s → StartsAt size f t id (work_in f.handed id)
+    → (t < length s.threads) × ((thread_at s t).running ≡ None) × (option_map (λ (task : Task). task.id) (next_of s t) ≡ Some id)
 starts_next size f s t id st h = starts_some size f s t id (work_in f.handed id) st refl h
 
-starts_from_by : (size : ℕ) (history : List Event) (t id : ℕ) (w : Handed) (o : Option ℕ) → has_begun (begun history) id ≡ false → StartsFor size history t id o → StartsBy size (facts_of history) t id w o
+starts_from_by : (size : ℕ) (history : List Event) (t id : ℕ) (w : Handed) (o : Option ℕ) → has_begun (begun history) id ≡ false
+    → StartsFor size history t id o → StartsBy size (facts_of history) t id w o
 starts_from_by size history t id w None e h = (h.thread_exists, e, h.thread_idle, h.thread_free, h.in_order)
 starts_from_by size history t id w (Some helper) e h = (h.thread_is, e, h.thread_idle, h.in_order)
 
@@ -228,7 +258,8 @@ starts_from : (size : ℕ) (history : List Event) (t id : ℕ) (o : Option Hande
 starts_from size history t id None h = h
 starts_from size history t id (Some w) h = starts_from_by size history t id w w.helper h.0 h.1
 
-starts_to_by : (size : ℕ) (history : List Event) (t id : ℕ) (w : Handed) (o : Option ℕ) → StartsBy size (facts_of history) t id w o → (has_begun (begun history) id ≡ false) × StartsFor size history t id o
+starts_to_by : (size : ℕ) (history : List Event) (t id : ℕ) (w : Handed) (o : Option ℕ) → StartsBy size (facts_of history) t id w o
+    → (has_begun (begun history) id ≡ false) × StartsFor size history t id o
 starts_to_by size history t id w None h =
     (h.1, record { thread_exists = h.0; thread_idle = h.2; thread_free = h.3; in_order = h.4 })
 starts_to_by size history t id w (Some helper) h = (h.1, record { thread_is = h.0; thread_idle = h.2; in_order = h.3 })
@@ -238,7 +269,9 @@ starts_to size history t id None h = h
 starts_to size history t id (Some w) h = starts_to_by size history t id w w.helper h
 
 -- a thread ends the work that it runs
-runs_one : (f : Facts) (t id : ℕ) (b : Begun) (o : Option Task) → running_on f.begun f.finished t ≡ begun_list t o → find (λ (x : Begun). x.thread == t && x.id == id) f.begun ≡ Some b → has_finished f.finished id ≡ false → (task : Task) × (o ≡ Some task) × (task.id ≡ id)
+runs_one : (f : Facts) (t id : ℕ) (b : Begun) (o : Option Task) → running_on f.begun f.finished t ≡ begun_list t o
+    → find (λ (x : Begun). x.thread == t && x.id == id) f.begun ≡ Some b → has_finished f.finished id ≡ false
+    → (task : Task) × (o ≡ Some task) × (task.id ≡ id)
 runs_one f t id b None runs found open_yet =
     let parts = and_parts (b.thread == t) (b.id == id) (find_passes (λ (x : Begun). x.thread == t && x.id == id) f.begun b found) in
     let none = each_find (λ (x : Begun). (x.thread == t && not (has_finished f.finished x.id)) ≡ false) (λ (x : Begun). x.thread == t && x.id == id) f.begun b (filter_nil (λ (x : Begun). x.thread == t && not (has_finished f.finished x.id)) f.begun runs) found in
@@ -249,7 +282,9 @@ runs_one f t id b (Some task) runs found open_yet =
     let same = one (and_now (b.thread == t) (has_finished f.finished b.id) parts.0 (ap (has_finished f.finished) (eqb-true b.id id parts.1) ∙ open_yet)) in
     (task, refl, sym (ap (λ (x : Begun). x.id) same) ∙ eqb-true b.id id parts.1)
 
-ends_of : (size : ℕ) (f : Facts) (s : DeskState) (t id : ℕ) (outcome : Outcome) → Stands size f s → list_any (λ (b : Begun). b.thread == t && b.id == id) f.begun ≡ true → has_finished f.finished id ≡ false → HasValue (work_in f.handed id) outcome → (t < length s.threads) × Ends id outcome (thread_at s t).running
+ends_of : (size : ℕ) (f : Facts) (s : DeskState) (t id : ℕ) (outcome : Outcome) → Stands size f s
+    → list_any (λ (b : Begun). b.thread == t && b.id == id) f.begun ≡ true → has_finished f.finished id ≡ false
+    → HasValue (work_in f.handed id) outcome → (t < length s.threads) × Ends id outcome (thread_at s t).running
 ends_of size f s t id outcome st started open_yet value =
     let k = some_found (λ (b : Begun). b.thread == t && b.id == id) f.begun started in
     let parts = and_parts (k.0.thread == t) (k.0.id == id) (find_passes (λ (x : Begun). x.thread == t && x.id == id) f.begun k.0 k.1) in
@@ -268,7 +303,9 @@ began f t task run =
     let none = each_find (λ (b : Begun). (b.thread == t && b.id == task.id) ≡ false) (λ (b : Begun). b.id == task.id) f.begun (record { thread = t; id = task.id }) (any_none (λ (b : Begun). b.thread == t && b.id == task.id) f.begun e) run.first in
     absurd (cc (none, and_yes (t == t) (task.id == task.id) (eq-eqb t t refl) (eq-eqb task.id task.id refl))))
 
-ends_rule : (size : ℕ) (f : Facts) (s : DeskState) (t id : ℕ) (outcome : Outcome) (o : Option Task) → Stands size f s → t < size → (thread_at s t).running ≡ o → Ends id outcome o → (list_any (λ (b : Begun). b.thread == t && b.id == id) f.begun ≡ true) × (has_finished f.finished id ≡ false) × HasValue (work_in f.handed id) outcome
+ends_rule : (size : ℕ) (f : Facts) (s : DeskState) (t id : ℕ) (outcome : Outcome) (o : Option Task) → Stands size f s → t < size
+    → (thread_at s t).running ≡ o → Ends id outcome o
+    → (list_any (λ (b : Begun). b.thread == t && b.id == id) f.begun ≡ true) × (has_finished f.finished id ≡ false) × HasValue (work_in f.handed id) outcome
 ends_rule size f s t id outcome None st lt is h = absurd h
 ends_rule size f s t id outcome (Some task) st lt is h =
     let run = running_of size f s t task st lt is in
@@ -289,7 +326,8 @@ late_ok : (a : Bool) → (a && false) ≡ false
 late_ok true = refl
 late_ok false = refl
 
-pub served_from : (size : ℕ) (history : List Event) (s : DeskState) (o : Option ℕ) → Stands size (facts_of history) s → IsServed history o → is_served o s ≡ true
+pub served_from : (size : ℕ) (history : List Event) (s : DeskState) (o : Option ℕ) → Stands size (facts_of history) s → IsServed history o
+    → is_served o s ≡ true
 served_from size history s None st h = refl
 served_from size history s (Some helper) st h = active_served size (facts_of history) s helper st h
 
@@ -297,12 +335,14 @@ pub served_to : (size : ℕ) (history : List Event) (s : DeskState) (o : Option 
 served_to size history s None st h = tt
 served_to size history s (Some helper) st h = served_active size (facts_of history) s helper st h
 
-pub owed_is : (size : ℕ) (f : Facts) (s : DeskState) → Stands size f s → map (λ (x : ℕ × Outcome). x.0) s.owed ≡ filter (λ id. not (is_among f.drained id)) (map (λ (x : ℕ × Outcome). x.0) f.finished)
+pub owed_is : (size : ℕ) (f : Facts) (s : DeskState) → Stands size f s
+    → map (λ (x : ℕ × Outcome). x.0) s.owed ≡ filter (λ id. not (is_among f.drained id)) (map (λ (x : ℕ × Outcome). x.0) f.finished)
 owed_is size f s st =
     ap (map (λ (x : ℕ × Outcome). x.0)) st.owed ∙ map_filter (λ id. not (is_among f.drained id)) f.finished
 
 -- a legal event fits
-pub legal_fits : (size askers : ℕ) (history : List Event) (s : DeskState) (e : Event) → Stands size (facts_of history) s → IsLegalAfter size askers history e → Fits s e
+pub legal_fits : (size askers : ℕ) (history : List Event) (s : DeskState) (e : Event) → Stands size (facts_of history) s
+    → IsLegalAfter size askers history e → Fits s e
 legal_fits size askers history s (event.Submit id work helper) st h =
     (st.closed ∙ closed_not (list_any is_close history) h.open_or_late, h.rule.0 ∙ sym st.submits, served_from size history s helper st h.rule.1)
 legal_fits size askers history s (event.Start thread id) st h =
@@ -326,14 +366,16 @@ task_next None id e = absurd (cc)
 task_next (Some task) id e = (task, refl, some_same task.id id e)
 
 -- a start that fits is one that may be
-pub fits_starts : (size : ℕ) (history : List Event) (s : DeskState) (thread id : ℕ) → Stands size (facts_of history) s → Fits s (event.Start thread id) → Starts size history thread id (work_at history id)
+pub fits_starts : (size : ℕ) (history : List Event) (s : DeskState) (thread id : ℕ) → Stands size (facts_of history) s
+    → Fits s (event.Start thread id) → Starts size history thread id (work_at history id)
 fits_starts size history s thread id st h =
     let k = task_next (next_of s thread) id h.3 in
     subst (λ n. Starts size history thread n (work_at history n)) k.2
     (starts_to size history thread k.0.id (work_at history k.0.id) (next_starts size (facts_of history) s thread k.0 st (omega (arith, h.1, st.size)) h.2 k.1))
 
 -- an event that fits is legal
-pub fits_legal : (size askers : ℕ) (history : List Event) (s : DeskState) (r : RequestsState) (e : Event) → Stands size (facts_of history) s → AskersStand askers (request_facts history) r
+pub fits_legal : (size askers : ℕ) (history : List Event) (s : DeskState) (r : RequestsState) (e : Event) → Stands size (facts_of history) s
+    → AskersStand askers (request_facts history) r
     → Fits s e → FitsRequests r e → IsLegalAfter size askers history e
 fits_legal size askers history s r (event.Submit id work helper) st asked h k =
     record { open_or_late = not_closed (list_any is_close history) (sym st.closed ∙ h.0); rule = (h.1 ∙ st.submits, served_to size history s helper st h.2) }

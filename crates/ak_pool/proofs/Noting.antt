@@ -23,27 +23,33 @@ use Rattle.ak_pool.proofs.Finishes.{stands_finished}
 use Rattle.ak_pool.proofs.Helpers.{stands_fetched, stands_closed, stands_refused, stands_granted, stands_ended}
 use Rattle.ak_pool.proofs.Legality.{task_next, owed_is}
 
-submit_at : (size : ℕ) (f : Facts) (s : DeskState) (work : Work) (helper : ℕ) (o : Option ℕ) → Stands size f s → position (serves helper) s.threads ≡ o → is_some o ≡ true → Stands size (added (event.Submit s.submits work (Some helper)) f) (submitted_at work o s)
+submit_at : (size : ℕ) (f : Facts) (s : DeskState) (work : Work) (helper : ℕ) (o : Option ℕ) → Stands size f s
+    → position (serves helper) s.threads ≡ o → is_some o ≡ true
+    → Stands size (added (event.Submit s.submits work (Some helper)) f) (submitted_at work o s)
 submit_at size f s work helper None st e k = absurd (cc)
 submit_at size f s work helper (Some p) st e k = stands_helped size f s work helper p st (serving_at size f s helper p st e)
 
-submit_next : (size : ℕ) (f : Facts) (s : DeskState) (id : ℕ) (work : Work) (helper : Option ℕ) → Stands size f s → Fits s (event.Submit id work helper) → Stands size (added (event.Submit id work helper) f) (submitted work helper s)
+submit_next : (size : ℕ) (f : Facts) (s : DeskState) (id : ℕ) (work : Work) (helper : Option ℕ) → Stands size f s
+    → Fits s (event.Submit id work helper) → Stands size (added (event.Submit id work helper) f) (submitted work helper s)
 submit_next size f s id work None st h =
     subst (λ n. Stands size (added (event.Submit n work None) f) (submitted work None s)) (sym h.1) (stands_general size f s work st)
 submit_next size f s id work (Some helper) st h =
     subst (λ n. Stands size (added (event.Submit n work (Some helper)) f) (submitted work (Some helper) s)) (sym h.1) (submit_at size f s work helper (position (serves helper) s.threads) st refl h.2)
 
-begin_by : (size : ℕ) (f : Facts) (s : DeskState) (t : ℕ) (task : Task) (o : Option ℕ) → Stands size f s → t < size → (thread_at s t).running ≡ None → (thread_at s t).helper ≡ o → next_by o s t ≡ Some task → Stands size (added (event.Start t task.id) f) (begun_of o task t s)
+begin_by : (size : ℕ) (f : Facts) (s : DeskState) (t : ℕ) (task : Task) (o : Option ℕ) → Stands size f s → t < size → (thread_at s t).running ≡ None
+    → (thread_at s t).helper ≡ o → next_by o s t ≡ Some task → Stands size (added (event.Start t task.id) f) (begun_of o task t s)
 begin_by size f s t task None st lt idle is next = stands_general_begun size f s t task st lt idle is next
 begin_by size f s t task (Some helper) st lt idle is next = stands_own_begun size f s t helper task st lt idle is next
 
-start_next : (size : ℕ) (f : Facts) (s : DeskState) (t id : ℕ) → Stands size f s → Fits s (event.Start t id) → Stands size (added (event.Start t id) f) (begun_by (next_of s t) t s)
+start_next : (size : ℕ) (f : Facts) (s : DeskState) (t id : ℕ) → Stands size f s → Fits s (event.Start t id)
+    → Stands size (added (event.Start t id) f) (begun_by (next_of s t) t s)
 start_next size f s t id st h =
     let k = task_next (next_of s t) id h.3 in
     subst (λ n. Stands size (added (event.Start t n) f) (begun_by (next_of s t) t s)) k.2
     (subst (λ o. Stands size (added (event.Start t k.0.id) f) (begun_by o t s)) (sym k.1) (begin_by size f s t k.0 (thread_at s t).helper st (omega (arith, h.1, st.size)) h.2 refl k.1))
 
-finish_by : (size : ℕ) (f : Facts) (s : DeskState) (t id : ℕ) (outcome : Outcome) (o : Option Task) → Stands size f s → t < size → (thread_at s t).running ≡ o → Ends id outcome o → Stands size (added (event.Finish t id outcome) f) (finished_by t id outcome s)
+finish_by : (size : ℕ) (f : Facts) (s : DeskState) (t id : ℕ) (outcome : Outcome) (o : Option Task) → Stands size f s → t < size
+    → (thread_at s t).running ≡ o → Ends id outcome o → Stands size (added (event.Finish t id outcome) f) (finished_by t id outcome s)
 finish_by size f s t id outcome None st lt is h = absurd h
 finish_by size f s t id outcome (Some task) st lt is h =
     subst (λ n. Stands size (added (event.Finish t n outcome) f) (finished_by t n outcome s)) h.0 (stands_finished size f s t task outcome st lt is)
@@ -60,14 +66,16 @@ some_answer : (b : Bool) (o : Option ℕ) (t : ℕ) → Some t ≡ cond b None o
 some_answer true o t e = absurd (cc)
 some_answer false o t e = sym e
 
-answer_next : (size : ℕ) (f : Facts) (s : DeskState) (answer : Option ℕ) → Stands size f s → answer ≡ answer_of s → Stands size (added (event.HelperNew s.helpers answer) f) (answered answer s)
+answer_next : (size : ℕ) (f : Facts) (s : DeskState) (answer : Option ℕ) → Stands size f s → answer ≡ answer_of s
+    → Stands size (added (event.HelperNew s.helpers answer) f) (answered answer s)
 answer_next size f s None st e = stands_refused size f s s.helpers st
 answer_next size f s (Some t) st e =
     let k = position-Some is_idle s.threads t idle_thread (some_answer (free_of s == 0) (position is_idle s.threads) t e) in
     let parts = both (is_none (thread_at s t).running) (is_none (thread_at s t).helper) k.1 in
     stands_granted size f s t st (omega (arith, k.0, st.size)) (none_of (thread_at s t).running parts.0) (none_of (thread_at s t).helper parts.1)
 
-end_at : (size : ℕ) (f : Facts) (s : DeskState) (helper : ℕ) (o : Option ℕ) → Stands size f s → position (serves helper) s.threads ≡ o → is_some o ≡ true → Stands size (added (event.HelperEnd helper) f) (ended_at o s)
+end_at : (size : ℕ) (f : Facts) (s : DeskState) (helper : ℕ) (o : Option ℕ) → Stands size f s → position (serves helper) s.threads ≡ o
+    → is_some o ≡ true → Stands size (added (event.HelperEnd helper) f) (ended_at o s)
 end_at size f s helper None st e k = absurd (cc)
 end_at size f s helper (Some p) st e k = stands_ended size f s helper p st (serving_at size f s helper p st e)
 
@@ -86,11 +94,13 @@ next_facts size f s (event.HelperNew asked answer) st h =
 next_facts size f s (event.HelperEnd helper) st h = end_at size f s helper (position (serves helper) s.threads) st refl h.1
 next_facts size f s event.Close st h = stands_closed size f s st
 
-pub stands_next : (size : ℕ) (history : List Event) (s : DeskState) (e : Event) → Stands size (facts_of history) s → Fits s e → Stands size (facts_of (history ++ e ∷ [])) (noted e s)
+pub stands_next : (size : ℕ) (history : List Event) (s : DeskState) (e : Event) → Stands size (facts_of history) s → Fits s e
+    → Stands size (facts_of (history ++ e ∷ [])) (noted e s)
 stands_next size history s e st h =
     subst (λ f. Stands size f (noted e s)) (sym (grown history e))
     (next_facts size (facts_of history) s e st h)
 
 -- a legal history with one more legal event
-pub legal_next : (size askers : ℕ) (history : List Event) (e : Event) → Legal size askers history → IsLegalAfter size askers history e → Legal size askers (history ++ e ∷ [])
+pub legal_next : (size askers : ℕ) (history : List Event) (e : Event) → Legal size askers history → IsLegalAfter size askers history e
+    → Legal size askers (history ++ e ∷ [])
 legal_next size askers history e legal is = AreLegalAfter-append size askers [] history e legal is

@@ -42,7 +42,9 @@ front_left n w ws h =
     ∙ filter_all (λ (x : Handed). not (w.id == x.id)) ws
     (each_map (λ x. w.id + 1 ≤ x.id) (λ x. not (w.id == x.id) ≡ true) (λ x k. ap not (ne_eqb w.id x.id (λ e. absurd (omega (arith, e, k))))) ws (grow_each (w.id + 1) ws h.1))
 
-only_at : (b : Bool) (n id : ℕ) (w w0 : Handed) (ws : List Handed) → (w.id == id) ≡ b → Grow (w.id + 1) ws → (find (λ (x : Handed). x.id == id) ws ≡ Some w0 → Each (λ x. x.id ≡ id → x ≡ w0) ws) → cond b (Some w) (find (λ (x : Handed). x.id == id) ws) ≡ Some w0 → (w.id ≡ id → w ≡ w0) × Each (λ x. x.id ≡ id → x ≡ w0) ws
+only_at : (b : Bool) (n id : ℕ) (w w0 : Handed) (ws : List Handed) → (w.id == id) ≡ b → Grow (w.id + 1) ws
+    → (find (λ (x : Handed). x.id == id) ws ≡ Some w0 → Each (λ x. x.id ≡ id → x ≡ w0) ws)
+    → cond b (Some w) (find (λ (x : Handed). x.id == id) ws) ≡ Some w0 → (w.id ≡ id → w ≡ w0) × Each (λ x. x.id ≡ id → x ≡ w0) ws
 only_at true n id w w0 ws e h f k =
     (λ _. some_same w w0 k, each_map (λ x. w.id + 1 ≤ x.id) (λ x. x.id ≡ id → x ≡ w0) (λ x le same. absurd (omega (arith, le, same, eqb-true w.id id e))) ws (grow_each (w.id + 1) ws h))
 only_at false n id w w0 ws e h f k =

@@ -25,7 +25,8 @@ all_filter p q xs h =
     each_all_true q (filter p xs) (each_map (λ x. (p x ≡ true → q x ≡ true) × (p x ≡ true)) (λ x. q x ≡ true) (λ x k. k.0 k.1) (filter p xs) (each_both (λ x. p x ≡ true → q x ≡ true) (λ x. p x ≡ true) (filter p xs) (each_filter (λ x. p x ≡ true → q x ≡ true) p xs h) (each_passes p xs)))
 
 -- a helper has a work that is not finished
-pub not_all : (handed : List Handed) (finished : List (ℕ × Outcome)) (helper id : ℕ) (w : Handed) → work_in handed id ≡ Some w → is_for helper w ≡ true → has_finished finished w.id ≡ false → list_all (λ v. has_finished finished v.id) (filter (is_for helper) handed) ≡ false
+pub not_all : (handed : List Handed) (finished : List (ℕ × Outcome)) (helper id : ℕ) (w : Handed) → work_in handed id ≡ Some w
+    → is_for helper w ≡ true → has_finished finished w.id ≡ false → list_all (λ v. has_finished finished v.id) (filter (is_for helper) handed) ≡ false
 not_all handed finished helper id w found of open_yet =
     false_from_ne_true _ (λ e.
     let all = unfilter (λ v. has_finished finished v.id ≡ true) (is_for helper) handed (all_each (λ v. has_finished finished v.id) (filter (is_for helper) handed) e) in
@@ -41,7 +42,10 @@ not_false b true e k = refl
 not_false b false e k = absurd (cc (e, k, and_is b))
 
 -- a work of a helper whose thread runs nothing is finished once it is begun
-pub done_once : (handed : List Handed) (begun : List Begun) (finished : List (ℕ × Outcome)) (reserved : List Reserved) (t helper : ℕ) (w : Handed) → Each (IsBegunOnce handed reserved begun) begun → Each (λ b. (b.thread == t && not (has_finished finished b.id)) ≡ false) begun → thread_in reserved helper ≡ Some t → work_in handed w.id ≡ Some w → is_for helper w ≡ true → has_begun begun w.id ≡ true → has_finished finished w.id ≡ true
+pub done_once : (handed : List Handed) (begun : List Begun) (finished : List (ℕ × Outcome)) (reserved : List Reserved) (t helper : ℕ) (w : Handed)
+    → Each (IsBegunOnce handed reserved begun) begun → Each (λ b. (b.thread == t && not (has_finished finished b.id)) ≡ false) begun
+    → thread_in reserved helper ≡ Some t → work_in handed w.id ≡ Some w → is_for helper w ≡ true → has_begun begun w.id ≡ true
+    → has_finished finished w.id ≡ true
 done_once handed begun finished reserved t helper w once idle on found of started =
     let one = any_one (λ b. IsBegunOnce handed reserved begun b × ((b.thread == t && not (has_finished finished b.id)) ≡ false)) (λ (b : Begun). b.id == w.id) begun (each_both (IsBegunOnce handed reserved begun) (λ b. (b.thread == t && not (has_finished finished b.id)) ≡ false) begun once idle) started in
     let b = one.0 in
@@ -55,7 +59,10 @@ done_once handed begun finished reserved t helper w once idle on found of starte
 waits_false : (begun : List Begun) (helper : ℕ) (w : Handed) → waits begun (Some helper) w ≡ false → is_for helper w ≡ true → has_begun begun w.id ≡ true
 waits_false begun helper w e of = not_false (is_for helper w) (has_begun begun w.id) of e
 
-over_idle : (handed : List Handed) (begun : List Begun) (finished : List (ℕ × Outcome)) (reserved : List Reserved) (t helper : ℕ) (queue : List Task) → AreNumbered 0 handed → Each (IsBegunOnce handed reserved begun) begun → Each (λ x. has_begun begun x.0 ≡ true) finished → running_on begun finished t ≡ [] → queue ≡ unbegun handed begun (Some helper) → thread_in reserved helper ≡ Some t → list_all (λ w. has_finished finished w.id) (filter (is_for helper) handed) ≡ is_empty_list queue
+over_idle : (handed : List Handed) (begun : List Begun) (finished : List (ℕ × Outcome)) (reserved : List Reserved) (t helper : ℕ) (queue : List Task)
+    → AreNumbered 0 handed → Each (IsBegunOnce handed reserved begun) begun → Each (λ x. has_begun begun x.0 ≡ true) finished
+    → running_on begun finished t ≡ [] → queue ≡ unbegun handed begun (Some helper) → thread_in reserved helper ≡ Some t
+    → list_all (λ w. has_finished finished w.id) (filter (is_for helper) handed) ≡ is_empty_list queue
 over_idle handed begun finished reserved t helper [] num once first idle q on =
     let none = filter_nil (waits begun (Some helper)) handed (map_nil task_of (filter (waits begun (Some helper)) handed) (sym q)) in
     let still = filter_nil (λ (b : Begun). b.thread == t && not (has_finished finished b.id)) begun idle in
@@ -67,7 +74,11 @@ over_idle handed begun finished reserved t helper (x ∷ xs) num once first idle
     not_all handed finished helper x.id front.work front.found front.of (ap (has_finished finished) id ∙ unfinished begun finished x.id first front.unbegun)
 
 -- the works of a helper are finished where its thread runs nothing and nothing waits
-pub over_when : (handed : List Handed) (begun : List Begun) (finished : List (ℕ × Outcome)) (reserved : List Reserved) (t helper : ℕ) (running : Option Task) (queue : List Task) → AreNumbered 0 handed → Each (IsBegunOnce handed reserved begun) begun → Each (λ x. has_begun begun x.0 ≡ true) finished → running_on begun finished t ≡ begun_list t running → IsTaskFor handed (Some helper) running → queue ≡ unbegun handed begun (Some helper) → thread_in reserved helper ≡ Some t → list_all (λ w. has_finished finished w.id) (filter (is_for helper) handed) ≡ (is_none running && is_empty_list queue)
+pub over_when : (handed : List Handed) (begun : List Begun) (finished : List (ℕ × Outcome)) (reserved : List Reserved) (t helper : ℕ) (running : Option Task) (queue : List Task)
+    → AreNumbered 0 handed → Each (IsBegunOnce handed reserved begun) begun → Each (λ x. has_begun begun x.0 ≡ true) finished
+    → running_on begun finished t ≡ begun_list t running → IsTaskFor handed (Some helper) running → queue ≡ unbegun handed begun (Some helper)
+    → thread_in reserved helper ≡ Some t
+    → list_all (λ w. has_finished finished w.id) (filter (is_for helper) handed) ≡ (is_none running && is_empty_list queue)
 over_when handed begun finished reserved t helper None queue num once first runs task q on =
     over_idle handed begun finished reserved t helper queue num once first runs q on
 over_when handed begun finished reserved t helper (Some task) queue num once first runs is q on =
@@ -89,18 +100,23 @@ left_at a v v' o true f g =
 left_at a v v' o false f g = ap (λ b. a && not b) (g refl) ∙ and_true (a && not v)
 
 -- for whom the threads are reserved, where one helper alone may be over by then
-pub held_left : (reserved : List Reserved) (ended ended' : List ℕ) (finished finished' : List (ℕ × Outcome)) (handed : List Handed) (helper : ℕ) → over_in ended finished handed helper ≡ false → ((h : ℕ) → (h ≡ helper → ⊥) → over_in ended' finished' handed h ≡ over_in ended finished handed h) → (u : ℕ) → held_on reserved ended' finished' handed u ≡ filter (λ r. not (r.helper == helper && over_in ended' finished' handed helper)) (held_on reserved ended finished handed u)
+pub held_left : (reserved : List Reserved) (ended ended' : List ℕ) (finished finished' : List (ℕ × Outcome)) (handed : List Handed) (helper : ℕ)
+    → over_in ended finished handed helper ≡ false
+    → ((h : ℕ) → (h ≡ helper → ⊥) → over_in ended' finished' handed h ≡ over_in ended finished handed h) → (u : ℕ)
+    → held_on reserved ended' finished' handed u ≡ filter (λ r. not (r.helper == helper && over_in ended' finished' handed helper)) (held_on reserved ended finished handed u)
 held_left reserved ended ended' finished finished' handed helper before same u =
     filter_same (λ r. r.thread == u && not (over_in ended' finished' handed r.helper)) (λ r. (r.thread == u && not (over_in ended finished handed r.helper)) && not (r.helper == helper && over_in ended' finished' handed helper)) reserved
     (each_all (λ r. (r.thread == u && not (over_in ended' finished' handed r.helper)) ≡ ((r.thread == u && not (over_in ended finished handed r.helper)) && not (r.helper == helper && over_in ended' finished' handed helper))) (λ r. left_at (r.thread == u) (over_in ended finished handed r.helper) (over_in ended' finished' handed r.helper) (over_in ended' finished' handed helper) (r.helper == helper) (λ e. (ap (over_in ended finished handed) (eqb-true r.helper helper e) ∙ before, ap (over_in ended' finished' handed) (eqb-true r.helper helper e))) (λ e. same r.helper (λ k. absurd (cc (e, eq-eqb r.helper helper k))))) reserved)
     ∙ sym (filter_filter (λ r. r.thread == u && not (over_in ended finished handed r.helper)) (λ r. not (r.helper == helper && over_in ended' finished' handed helper)) reserved)
 
 -- the list of the one helper that holds a thread, without the helper that is over
-pub list_left : (t helper : ℕ) (o : Bool) → filter (λ (r : Reserved). not (r.helper == helper && o)) (reserved_list t (Some helper)) ≡ cond o [] (reserved_list t (Some helper))
+pub list_left : (t helper : ℕ) (o : Bool)
+    → filter (λ (r : Reserved). not (r.helper == helper && o)) (reserved_list t (Some helper)) ≡ cond o [] (reserved_list t (Some helper))
 list_left t helper true = ap (λ b. cond (not (b && true)) (reserved_list t (Some helper)) []) (eq-eqb helper helper refl)
 list_left t helper false = ap (λ b. cond (not (b && false)) (reserved_list t (Some helper)) []) (eq-eqb helper helper refl)
 
-pub list_other : (t : ℕ) (other : Option ℕ) (helper : ℕ) (o : Bool) → (other ≡ Some helper → ⊥) → filter (λ (r : Reserved). not (r.helper == helper && o)) (reserved_list t other) ≡ reserved_list t other
+pub list_other : (t : ℕ) (other : Option ℕ) (helper : ℕ) (o : Bool) → (other ≡ Some helper → ⊥)
+    → filter (λ (r : Reserved). not (r.helper == helper && o)) (reserved_list t other) ≡ reserved_list t other
 list_other t None helper o ne = refl
 list_other t (Some h) helper o ne = ap (λ b. cond (not (b && o)) (reserved_list t (Some h)) []) (ne_eqb h helper (λ e. ne (ap Some e)))
 
@@ -118,7 +134,10 @@ empty_of : {A : Type 0} (xs : List A) → is_empty_list xs ≡ true → xs ≡ [
 empty_of [] e = refl
 empty_of (x ∷ xs) e = absurd (cc)
 
-vacated_at : (handed : List Handed) (begun : List Begun) (finished : List (ℕ × Outcome)) (reserved : List Reserved) (ended : List ℕ) (t helper : ℕ) (z : ThreadState) (b : Bool) → is_left z ≡ b → z.helper ≡ Some helper → running_on begun finished t ≡ begun_list t z.running → IsTaskFor handed (Some helper) z.running → held_on reserved ended finished handed t ≡ cond b [] (reserved_list t (Some helper)) → IsQueueFor handed begun ended (Some helper) z → ThreadStands handed begun finished reserved ended t (cond b (record z { helper = None; ended = false }) z)
+vacated_at : (handed : List Handed) (begun : List Begun) (finished : List (ℕ × Outcome)) (reserved : List Reserved) (ended : List ℕ) (t helper : ℕ) (z : ThreadState) (b : Bool)
+    → is_left z ≡ b → z.helper ≡ Some helper → running_on begun finished t ≡ begun_list t z.running → IsTaskFor handed (Some helper) z.running
+    → held_on reserved ended finished handed t ≡ cond b [] (reserved_list t (Some helper)) → IsQueueFor handed begun ended (Some helper) z
+    → ThreadStands handed begun finished reserved ended t (cond b (record z { helper = None; ended = false }) z)
 vacated_at handed begun finished reserved ended t helper z true e is runs task held queue =
     let parts = left_parts z.ended (is_none z.running) (is_empty_list z.queue) e in
     let idle = none_of z.running parts.0 in
@@ -137,7 +156,10 @@ vacated_at handed begun finished reserved ended t helper z false e is runs task 
     }
 
 -- the thread of a helper that may be over by now
-pub stands_vacated : (handed : List Handed) (begun : List Begun) (finished : List (ℕ × Outcome)) (reserved : List Reserved) (ended : List ℕ) (t helper : ℕ) (z : ThreadState) → z.helper ≡ Some helper → running_on begun finished t ≡ begun_list t z.running → IsTaskFor handed (Some helper) z.running → held_on reserved ended finished handed t ≡ cond (is_left z) [] (reserved_list t (Some helper)) → IsQueueFor handed begun ended (Some helper) z → ThreadStands handed begun finished reserved ended t (vacated z)
+pub stands_vacated : (handed : List Handed) (begun : List Begun) (finished : List (ℕ × Outcome)) (reserved : List Reserved) (ended : List ℕ) (t helper : ℕ) (z : ThreadState)
+    → z.helper ≡ Some helper → running_on begun finished t ≡ begun_list t z.running → IsTaskFor handed (Some helper) z.running
+    → held_on reserved ended finished handed t ≡ cond (is_left z) [] (reserved_list t (Some helper)) → IsQueueFor handed begun ended (Some helper) z
+    → ThreadStands handed begun finished reserved ended t (vacated z)
 stands_vacated handed begun finished reserved ended t helper z is runs task held queue =
     vacated_at handed begun finished reserved ended t helper z (is_left z) refl is runs task held queue
 
@@ -146,7 +168,10 @@ and_assoc true b c = refl
 and_assoc false b c = refl
 
 -- whether the helper is over, by its thread
-pub over_by_thread : (handed : List Handed) (begun : List Begun) (finished : List (ℕ × Outcome)) (reserved : List Reserved) (ended : List ℕ) (t helper : ℕ) (z : ThreadState) → AreNumbered 0 handed → Each (IsBegunOnce handed reserved begun) begun → Each (λ x. has_begun begun x.0 ≡ true) finished → running_on begun finished t ≡ begun_list t z.running → IsTaskFor handed (Some helper) z.running → IsQueueFor handed begun ended (Some helper) z → thread_in reserved helper ≡ Some t → over_in ended finished handed helper ≡ is_left z
+pub over_by_thread : (handed : List Handed) (begun : List Begun) (finished : List (ℕ × Outcome)) (reserved : List Reserved) (ended : List ℕ) (t helper : ℕ) (z : ThreadState)
+    → AreNumbered 0 handed → Each (IsBegunOnce handed reserved begun) begun → Each (λ x. has_begun begun x.0 ≡ true) finished
+    → running_on begun finished t ≡ begun_list t z.running → IsTaskFor handed (Some helper) z.running → IsQueueFor handed begun ended (Some helper) z
+    → thread_in reserved helper ≡ Some t → over_in ended finished handed helper ≡ is_left z
 over_by_thread handed begun finished reserved ended t helper z num once first runs task queue on =
     ap (λ b. is_among ended helper && b) (over_when handed begun finished reserved t helper z.running z.queue num once first runs task queue.0 on)
     ∙ ap (λ b. b && (is_none z.running && is_empty_list z.queue)) (sym queue.1)

@@ -39,7 +39,8 @@ none_is None e = refl
 none_is (Some x) e = absurd (cc)
 
 -- a thread that runs nothing
-pub idle_of : (size : ℕ) (history : List Event) (s : DeskState) (t : ℕ) → Stands size (facts_of history) s → t < size → is_running history t ≡ false → (thread_at s t).running ≡ None
+pub idle_of : (size : ℕ) (history : List Event) (s : DeskState) (t : ℕ) → Stands size (facts_of history) s → t < size → is_running history t ≡ false
+    → (thread_at s t).running ≡ None
 idle_of size history s t st lt e =
     none_is (thread_at s t).running (sym (runs_is size (facts_of history) s t st lt) ∙ e)
 
@@ -48,7 +49,8 @@ pub start_legal : (size : ℕ) (history : List Event) (t id : ℕ) → MayStart 
 start_legal size history t id may = record { open_or_late = not_closed (list_any is_close history) may.0; rule = may.1 }
 
 -- a start that fits may be
-pub may_fit : (size : ℕ) (history : List Event) (s : DeskState) (t id : ℕ) → Stands size (facts_of history) s → Fits s (event.Start t id) → MayStart size history t id
+pub may_fit : (size : ℕ) (history : List Event) (s : DeskState) (t id : ℕ) → Stands size (facts_of history) s → Fits s (event.Start t id)
+    → MayStart size history t id
 may_fit size history s t id st fits = (sym st.closed ∙ fits.0, fits_starts size history s t id st fits)
 
 -- nothing may start on a thread for which nothing is next
@@ -63,14 +65,17 @@ none_closed size history s t st e id may =
     let fits = legal_fits size 0 history s (event.Start t id) st (start_legal size history t id may) in absurd (cc (fits.0, e))
 
 -- what is next on a thread that runs nothing
-pub start_fits : (s : DeskState) (t : ℕ) (task : Task) → s.closed ≡ false → t < length s.threads → (thread_at s t).running ≡ None → next_of s t ≡ Some task → Fits s (event.Start t task.id)
+pub start_fits : (s : DeskState) (t : ℕ) (task : Task) → s.closed ≡ false → t < length s.threads → (thread_at s t).running ≡ None
+    → next_of s t ≡ Some task → Fits s (event.Start t task.id)
 start_fits s t task unclosed lt idle next = (unclosed, lt, idle, ap (option_map (λ (x : Task). x.id)) next)
 
-work_of : (handed : List Handed) (w : Handed) (task : Task) → work_in handed task.id ≡ Some w → record { id = w.id; work = w.work } ≡ task → option_map (λ (v : Handed). v.work) (work_in handed task.id) ≡ Some task.work
+work_of : (handed : List Handed) (w : Handed) (task : Task) → work_in handed task.id ≡ Some w → record { id = w.id; work = w.work } ≡ task
+    → option_map (λ (v : Handed). v.work) (work_in handed task.id) ≡ Some task.work
 work_of handed w task found same =
     ap (option_map (λ (v : Handed). v.work)) found ∙ ap Some (ap (λ (x : Task). x.work) same)
 
-next_work_by : (size : ℕ) (f : Facts) (s : DeskState) (t : ℕ) (task : Task) (o : Option ℕ) → Stands size f s → t < size → (thread_at s t).helper ≡ o → next_by o s t ≡ Some task → option_map (λ (v : Handed). v.work) (work_in f.handed task.id) ≡ Some task.work
+next_work_by : (size : ℕ) (f : Facts) (s : DeskState) (t : ℕ) (task : Task) (o : Option ℕ) → Stands size f s → t < size → (thread_at s t).helper ≡ o
+    → next_by o s t ≡ Some task → option_map (λ (v : Handed). v.work) (work_in f.handed task.id) ≡ Some task.work
 next_work_by size f s t task None st lt is next =
     let front = front_of f.handed f.begun None task (rest_of s.waiting) st.numbered (sym st.waiting ∙ cons_of s.waiting task next) in
     work_of f.handed front.work task front.found front.same
@@ -80,21 +85,25 @@ next_work_by size f s t task (Some helper) st lt is next =
     let front = front_of f.handed f.begun (Some helper) task (rest_of x.queue) st.numbered (sym queue.0 ∙ cons_of x.queue task next) in
     work_of f.handed front.work task front.found front.same
 
-pub next_work : (size : ℕ) (history : List Event) (s : DeskState) (t : ℕ) (task : Task) → Stands size (facts_of history) s → t < size → next_of s t ≡ Some task → option_map (λ (v : Handed). v.work) (work_at history task.id) ≡ Some task.work
+pub next_work : (size : ℕ) (history : List Event) (s : DeskState) (t : ℕ) (task : Task) → Stands size (facts_of history) s → t < size
+    → next_of s t ≡ Some task → option_map (λ (v : Handed). v.work) (work_at history task.id) ≡ Some task.work
 next_work size history s t task st lt next =
     next_work_by size (facts_of history) s t task (thread_at s t).helper st lt refl next
 
 -- the history stays legal, and the desk and the requests what it leaves
-pub legal_kept : (size askers : ℕ) (history after : List Event) (s : DeskState) (r : RequestsState) (e : Event) → Legal size askers history → Stands size (facts_of history) s → AskersStand askers (request_facts history) r
+pub legal_kept : (size askers : ℕ) (history after : List Event) (s : DeskState) (r : RequestsState) (e : Event) → Legal size askers history
+    → Stands size (facts_of history) s → AskersStand askers (request_facts history) r
     → Fits s e → FitsRequests r e → after ≡ history ++ e ∷ [] → Legal size askers after
 legal_kept size askers history after s r e legal st asked fits fits_too same =
     subst (Legal size askers) (sym same) (legal_next size askers history e legal (fits_legal size askers history s r e st asked fits fits_too))
 
-pub stands_kept : (size : ℕ) (history after : List Event) (s s' : DeskState) (e : Event) → Stands size (facts_of history) s → Fits s e → after ≡ history ++ e ∷ [] → s' ≡ noted e s → Stands size (facts_of after) s'
+pub stands_kept : (size : ℕ) (history after : List Event) (s s' : DeskState) (e : Event) → Stands size (facts_of history) s → Fits s e
+    → after ≡ history ++ e ∷ [] → s' ≡ noted e s → Stands size (facts_of after) s'
 stands_kept size history after s s' e st fits same now =
     subst (λ h. Stands size (facts_of h) s') (sym same) (subst (λ d. Stands size (facts_of (history ++ e ∷ [])) d) (sym now) (stands_next size history s e st fits))
 
-pub asked_kept : (askers : ℕ) (history after : List Event) (r r' : RequestsState) (e : Event) → AskersStand askers (request_facts history) r → FitsRequests r e → after ≡ history ++ e ∷ [] → r' ≡ requests_noted e r
+pub asked_kept : (askers : ℕ) (history after : List Event) (r r' : RequestsState) (e : Event) → AskersStand askers (request_facts history) r
+    → FitsRequests r e → after ≡ history ++ e ∷ [] → r' ≡ requests_noted e r
     → AskersStand askers (request_facts after) r'
 asked_kept askers history after r r' e asked fits same now =
     subst (λ h. AskersStand askers (request_facts h) r') (sym same)
@@ -117,7 +126,8 @@ pub answer_now : (size : ℕ) (history : List Event) (s : DeskState) → Stands 
 answer_now size history s st = sym (answer_is size (facts_of history) s st)
 
 -- the work that may start is the one that is next
-pub may_is : (size : ℕ) (history : List Event) (s : DeskState) (t id : ℕ) → Stands size (facts_of history) s → s.closed ≡ false → t < size → (thread_at s t).running ≡ None → (option_map (λ (task : Task). task.id) (next_of s t) ≡ Some id) ↔ MayStart size history t id
+pub may_is : (size : ℕ) (history : List Event) (s : DeskState) (t id : ℕ) → Stands size (facts_of history) s → s.closed ≡ false → t < size
+    → (thread_at s t).running ≡ None → (option_map (λ (task : Task). task.id) (next_of s t) ≡ Some id) ↔ MayStart size history t id
 may_is size history s t id st unclosed lt idle =
     (λ e. may_fit size history s t id st (unclosed, omega (arith, lt, st.size), idle, e), λ may. (legal_fits size 0 history s (event.Start t id) st (start_legal size history t id may)).3)
 
@@ -164,7 +174,8 @@ abbrev pub due_in : Inside → ℕ
 due_in p = due_of p.desk + due_of_requests p.requests
 
 -- the pool after an event that fits and is no close
-pub pool_kept : (p q : Inside) (e : Event) → IsLegalPool p → Fits p.desk e → FitsRequests p.requests e → is_close e ≡ false → q.threads ≡ p.threads → q.askers ≡ p.askers → q.events.items ≡ p.events.items ++ e ∷ []
+pub pool_kept : (p q : Inside) (e : Event) → IsLegalPool p → Fits p.desk e → FitsRequests p.requests e → is_close e ≡ false → q.threads ≡ p.threads
+    → q.askers ≡ p.askers → q.events.items ≡ p.events.items ++ e ∷ []
     → q.desk ≡ noted e p.desk → q.requests ≡ requests_noted e p.requests
     → ((b : ℕ) → vec_len p.events + (due_in p + p.spare + b) ≤ vec_capacity p.events → b ≤ 1 → vec_len q.events + (due_in q + q.spare + b) ≤ vec_capacity q.events) → IsLegalPool q
 pool_kept p q e inv fits fits_too late threads askers events desk requests room =
@@ -178,7 +189,8 @@ pool_kept p q e inv fits fits_too late threads askers events desk requests room 
     }
 
 -- the pool after its close
-pub pool_closed : (p q : Inside) → IsLegalPool p → p.desk.closed ≡ false → q.threads ≡ p.threads → q.askers ≡ p.askers → q.events.items ≡ p.events.items ++ event.Close ∷ [] → q.desk ≡ noted event.Close p.desk → q.requests ≡ p.requests
+pub pool_closed : (p q : Inside) → IsLegalPool p → p.desk.closed ≡ false → q.threads ≡ p.threads → q.askers ≡ p.askers
+    → q.events.items ≡ p.events.items ++ event.Close ∷ [] → q.desk ≡ noted event.Close p.desk → q.requests ≡ p.requests
     → (vec_len p.events + (due_in p + p.spare + 1) ≤ vec_capacity p.events → vec_len q.events + (due_in q + q.spare + 0) ≤ vec_capacity q.events) → IsLegalPool q
 pool_closed p q inv fits threads askers events desk requests room =
     let before : cond p.desk.closed 0 1 ≡ 1 = ap (λ b. open_of b) fits in
@@ -191,7 +203,8 @@ pool_closed p q inv fits threads askers events desk requests room =
     }
 
 -- a pool of which nothing was asked
-pub pool_first : (p : Inside) (threads askers : ℕ) → p.threads ≡ threads → p.askers ≡ askers → p.events.items ≡ [] → p.desk ≡ no_works threads → p.requests ≡ nothing_asked askers
+pub pool_first : (p : Inside) (threads askers : ℕ) → p.threads ≡ threads → p.askers ≡ askers → p.events.items ≡ [] → p.desk ≡ no_works threads
+    → p.requests ≡ nothing_asked askers
     → vec_len p.events + (due_in p + p.spare + 1) ≤ vec_capacity p.events → IsLegalPool p
 pool_first p threads askers same same_too events desk requests room =
     let bare : cond p.desk.closed 0 1 ≡ 1 = ap (λ (d : DeskState). open_of d.closed) desk in
@@ -203,7 +216,8 @@ pool_first p threads askers same same_too events desk requests room =
     }
 
 -- what a drain puts into what was cleared
-pub drain_brings : (size askers : ℕ) (history : List Event) (s : DeskState) (r : RequestsState) (cleared a b : Arrived) → cleared ≡ nothing_arrived → a ≡ record cleared { works = cleared.works ++ s.owed }
+pub drain_brings : (size askers : ℕ) (history : List Event) (s : DeskState) (r : RequestsState) (cleared a b : Arrived) → cleared ≡ nothing_arrived
+    → a ≡ record cleared { works = cleared.works ++ s.owed }
     → b ≡ record a { requests = a.requests ++ map pair_of (unfetched_of r); left = left_of r } → Stands size (facts_of history) s → AskersStand askers (request_facts history) r → b ≡ brought askers history
 drain_brings size askers history s r cleared a b clear owed rest st asked =
     let works : b.works ≡ owed_pairs history =
@@ -216,7 +230,8 @@ drain_brings size askers history s r cleared a b clear owed rest st asked =
     λ i. record { works = works i; requests = requests i; left = left i }
 
 -- whether a drain has something to tell
-pub owes_now : (size askers : ℕ) (history : List Event) (s : DeskState) (r : RequestsState) → Stands size (facts_of history) s → AskersStand askers (request_facts history) r
+pub owes_now : (size askers : ℕ) (history : List Event) (s : DeskState) (r : RequestsState) → Stands size (facts_of history) s
+    → AskersStand askers (request_facts history) r
     → (not (length s.owed == 0) || not (length (unfetched_of r) == 0) || r.untold) ≡ owes history
 owes_now size askers history s r st asked =
     λ i. not (owes_is size history s st i) || not (none_unfetched askers history r asked i) || (sym asked.untold) i
@@ -226,7 +241,9 @@ ends_some id outcome None h = absurd h
 ends_some id outcome (Some task) h = refl
 
 -- the work that may start, by what is next
-pub may_given : (size : ℕ) (history : List Event) (s : DeskState) (t : ℕ) (o : Option ℕ) → Stands size (facts_of history) s → s.closed ≡ false → t < size → (thread_at s t).running ≡ None → option_map (λ (task : Task). task.id) (next_of s t) ≡ o → (id : ℕ) → (o ≡ Some id) ↔ MayStart size history t id
+pub may_given : (size : ℕ) (history : List Event) (s : DeskState) (t : ℕ) (o : Option ℕ) → Stands size (facts_of history) s → s.closed ≡ false
+    → t < size → (thread_at s t).running ≡ None → option_map (λ (task : Task). task.id) (next_of s t) ≡ o → (id : ℕ)
+    → (o ≡ Some id) ↔ MayStart size history t id
 may_given size history s t o st unclosed lt idle e id =
     subst (λ x. (x ≡ Some id) ↔ MayStart size history t id) e (may_is size history s t id st unclosed lt idle)
 
@@ -238,6 +255,7 @@ abbrev pub some_bit : Option Task → ℕ
 some_bit o = cond (is_some o) 1 0
 
 -- a helper is refused exactly where no thread is free
-pub refused_now : (size : ℕ) (history : List Event) (s : DeskState) (o : Option ℕ) → Stands size (facts_of history) s → o ≡ answer_of s → (o ≡ None) ↔ (free_threads size history ≡ 0)
+pub refused_now : (size : ℕ) (history : List Event) (s : DeskState) (o : Option ℕ) → Stands size (facts_of history) s → o ≡ answer_of s
+    → (o ≡ None) ↔ (free_threads size history ≡ 0)
 refused_now size history s o st e =
     subst (λ x. (x ≡ None) ↔ (free_threads size history ≡ 0)) (sym e) (subst (λ n. (answer_of s ≡ None) ↔ (n ≡ 0)) (sym (free_is size (facts_of history) s st)) (refused_is s))

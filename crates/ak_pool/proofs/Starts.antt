@@ -30,25 +30,32 @@ rebuilt w task o same e =
     ap (λ (t : Task). handed t w.helper) same ∙ ap (handed task) e
 
 -- a work that is not begun is not finished
-pub unfinished : (begun : List Begun) (finished : List (ℕ × Outcome)) (id : ℕ) → Each (λ x. has_begun begun x.0 ≡ true) finished → has_begun begun id ≡ false → has_finished finished id ≡ false
+pub unfinished : (begun : List Begun) (finished : List (ℕ × Outcome)) (id : ℕ) → Each (λ x. has_begun begun x.0 ≡ true) finished
+    → has_begun begun id ≡ false → has_finished finished id ≡ false
 unfinished begun finished id each e =
     none_any (λ (x : ℕ × Outcome). x.0 == id) finished (each_map (λ x. has_begun begun x.0 ≡ true) (λ x. (x.0 == id) ≡ false) (λ x k. ne_eqb x.0 id (λ same. absurd (cc (k, e, ap (has_begun begun) same)))) finished each)
 
-running_here : (begun : List Begun) (finished : List (ℕ × Outcome)) (t : ℕ) (task : Task) → running_on begun finished t ≡ [] → has_finished finished task.id ≡ false → running_on (begun ++ record { thread = t; id = task.id } ∷ []) finished t ≡ begun_list t (Some task)
+running_here : (begun : List Begun) (finished : List (ℕ × Outcome)) (t : ℕ) (task : Task) → running_on begun finished t ≡ []
+    → has_finished finished task.id ≡ false → running_on (begun ++ record { thread = t; id = task.id } ∷ []) finished t ≡ begun_list t (Some task)
 running_here begun finished t task none e =
     filter_last (λ (b : Begun). b.thread == t && not (has_finished finished b.id)) begun (record { thread = t; id = task.id }) (ap (λ c. (t == t) && not c) e ∙ ap (λ c. c && true) (eq-eqb t t refl))
     ∙ ap (λ bs. bs ++ begun_list t (Some task)) none
 
-running_other : (begun : List Begun) (finished : List (ℕ × Outcome)) (u : ℕ) (b : Begun) → (u ≡ b.thread → ⊥) → running_on (begun ++ b ∷ []) finished u ≡ running_on begun finished u
+running_other : (begun : List Begun) (finished : List (ℕ × Outcome)) (u : ℕ) (b : Begun) → (u ≡ b.thread → ⊥)
+    → running_on (begun ++ b ∷ []) finished u ≡ running_on begun finished u
 running_other begun finished u b ne =
     filter_kept (λ (x : Begun). x.thread == u && not (has_finished finished x.id)) begun b (ap (λ c. c && not (has_finished finished b.id)) (ne_eqb b.thread u (λ e. ne (sym e))))
 
-queue_begun : (handed : List Handed) (begun : List Begun) (ended : List ℕ) (work : Handed) (b : Begun) (o : Option ℕ) (x : ThreadState) → AreNumbered 0 handed → work_in handed b.id ≡ Some work → ((helper : ℕ) → o ≡ Some helper → is_that helper work.helper ≡ false) → IsQueueFor handed begun ended o x → IsQueueFor handed (begun ++ b ∷ []) ended o x
+queue_begun : (handed : List Handed) (begun : List Begun) (ended : List ℕ) (work : Handed) (b : Begun) (o : Option ℕ) (x : ThreadState)
+    → AreNumbered 0 handed → work_in handed b.id ≡ Some work → ((helper : ℕ) → o ≡ Some helper → is_that helper work.helper ≡ false)
+    → IsQueueFor handed begun ended o x → IsQueueFor handed (begun ++ b ∷ []) ended o x
 queue_begun handed begun ended work b None x num found other h = h
 queue_begun handed begun ended work b (Some helper) x num found other h =
     (h.0 ∙ sym (unbegun_other handed begun (Some helper) work b num found (other helper refl)), h.1)
 
-thread_begun : (f : Facts) (work : Handed) (b : Begun) (u : ℕ) (x : ThreadState) → AreNumbered 0 f.handed → work_in f.handed b.id ≡ Some work → (u ≡ b.thread → ⊥) → ((helper : ℕ) → x.helper ≡ Some helper → is_that helper work.helper ≡ false) → ThreadStands f.handed f.begun f.finished f.reserved f.ended u x → ThreadStands f.handed (f.begun ++ b ∷ []) f.finished f.reserved f.ended u x
+thread_begun : (f : Facts) (work : Handed) (b : Begun) (u : ℕ) (x : ThreadState) → AreNumbered 0 f.handed → work_in f.handed b.id ≡ Some work
+    → (u ≡ b.thread → ⊥) → ((helper : ℕ) → x.helper ≡ Some helper → is_that helper work.helper ≡ false)
+    → ThreadStands f.handed f.begun f.finished f.reserved f.ended u x → ThreadStands f.handed (f.begun ++ b ∷ []) f.finished f.reserved f.ended u x
 thread_begun f work b u x num found ne other row =
     record {
       running = running_other f.begun f.finished u b ne ∙ row.running;
@@ -58,7 +65,9 @@ thread_begun f work b u x num found ne other row =
     }
 
 -- each work that is begun, with one more
-begun_begun : (f : Facts) (work : Handed) (b : Begun) → work_in f.handed b.id ≡ Some work → IsOn f.reserved b.thread work.helper → has_begun f.begun b.id ≡ false → Each (IsBegunOnce f.handed f.reserved f.begun) f.begun → Each (IsBegunOnce f.handed f.reserved (f.begun ++ b ∷ [])) (f.begun ++ b ∷ [])
+begun_begun : (f : Facts) (work : Handed) (b : Begun) → work_in f.handed b.id ≡ Some work → IsOn f.reserved b.thread work.helper
+    → has_begun f.begun b.id ≡ false → Each (IsBegunOnce f.handed f.reserved f.begun) f.begun
+    → Each (IsBegunOnce f.handed f.reserved (f.begun ++ b ∷ [])) (f.begun ++ b ∷ [])
 begun_begun f work b found on e h =
     each_last (IsBegunOnce f.handed f.reserved (f.begun ++ b ∷ [])) f.begun b
     (each_map (IsBegunOnce f.handed f.reserved f.begun) (IsBegunOnce f.handed f.reserved (f.begun ++ b ∷ [])) (λ c k. record { work = k.work; is = k.is; on = k.on; once = find_more (λ (x : Begun). x.id == c.id) f.begun (b ∷ []) c k.once }) f.begun h)
@@ -91,7 +100,9 @@ test_false : (a c : Bool) → (a && false && c) ≡ false
 test_false true c = refl
 test_false false c = refl
 
-general_more : (f : Facts) (work : Handed) (b : Begun) → AreNumbered 0 f.handed → work_in f.handed b.id ≡ Some work → is_general work ≡ true → has_begun f.begun b.id ≡ false → has_finished f.finished b.id ≡ false → general_in f.handed (f.begun ++ b ∷ []) f.finished ≡ general_in f.handed f.begun f.finished + 1
+general_more : (f : Facts) (work : Handed) (b : Begun) → AreNumbered 0 f.handed → work_in f.handed b.id ≡ Some work → is_general work ≡ true
+    → has_begun f.begun b.id ≡ false → has_finished f.finished b.id ≡ false
+    → general_in f.handed (f.begun ++ b ∷ []) f.finished ≡ general_in f.handed f.begun f.finished + 1
 general_more f work b num found of e g =
     let id : work.id ≡ b.id = found_id b.id work f.handed found in
     count_one (general_test f.begun f.finished) (general_test (f.begun ++ b ∷ []) f.finished) 0 b.id work f.handed (numbered_grow 0 f.handed num)
@@ -102,19 +113,23 @@ general_more f work b num found of e g =
     ∙ ap (λ c. true && true && not c) (ap (has_finished f.finished) id ∙ g))
     found
 
-general_same_at : (f : Facts) (work : Handed) (b : Begun) (x : Handed) → is_general work ≡ false → (x.id ≡ b.id → x ≡ work) → (x.id ≡ b.id) ⊎ (x.id ≡ b.id → ⊥) → general_test (f.begun ++ b ∷ []) f.finished x ≡ general_test f.begun f.finished x
+general_same_at : (f : Facts) (work : Handed) (b : Begun) (x : Handed) → is_general work ≡ false → (x.id ≡ b.id → x ≡ work)
+    → (x.id ≡ b.id) ⊎ (x.id ≡ b.id → ⊥) → general_test (f.begun ++ b ∷ []) f.finished x ≡ general_test f.begun f.finished x
 general_same_at f work b x of same (inl e) =
     ap (λ c. c && has_begun (f.begun ++ b ∷ []) x.id && not (has_finished f.finished x.id)) (ap is_general (same e) ∙ of)
     ∙ sym (ap (λ c. c && has_begun f.begun x.id && not (has_finished f.finished x.id)) (ap is_general (same e) ∙ of))
 general_same_at f work b x of same (inr ne) =
     ap (λ c. is_general x && c && not (has_finished f.finished x.id)) (begun_apart f.begun b x.id (λ s. ne (sym s)))
 
-general_kept : (f : Facts) (work : Handed) (b : Begun) → AreNumbered 0 f.handed → work_in f.handed b.id ≡ Some work → is_general work ≡ false → general_in f.handed (f.begun ++ b ∷ []) f.finished ≡ general_in f.handed f.begun f.finished
+general_kept : (f : Facts) (work : Handed) (b : Begun) → AreNumbered 0 f.handed → work_in f.handed b.id ≡ Some work → is_general work ≡ false
+    → general_in f.handed (f.begun ++ b ∷ []) f.finished ≡ general_in f.handed f.begun f.finished
 general_kept f work b num found of =
     count_same (general_test (f.begun ++ b ∷ []) f.finished) (general_test f.begun f.finished) f.handed
     (each_map (λ x. x.id ≡ b.id → x ≡ work) (λ x. general_test (f.begun ++ b ∷ []) f.finished x ≡ general_test f.begun f.finished x) (λ x same. general_same_at f work b x of same (cases_eq x.id b.id)) f.handed (only 0 b.id work f.handed (numbered_grow 0 f.handed num) found))
 
-general_now : (ths : List ThreadState) (t : ℕ) (task : Task) → t < length ths → (get_or ths t idle_thread).running ≡ None → (get_or ths t idle_thread).helper ≡ None → count_by runs_general ths + 1 ≡ count_by runs_general (set ths t (with_running task (get_or ths t idle_thread)))
+general_now : (ths : List ThreadState) (t : ℕ) (task : Task) → t < length ths → (get_or ths t idle_thread).running ≡ None
+    → (get_or ths t idle_thread).helper ≡ None
+    → count_by runs_general ths + 1 ≡ count_by runs_general (set ths t (with_running task (get_or ths t idle_thread)))
 general_now ths t task lt idle free =
     let x = get_or ths t idle_thread in
     let before : one_if (runs_general x) ≡ 0 = ap (λ o. one_if (is_some o && is_none x.helper)) idle in
@@ -122,7 +137,8 @@ general_now ths t task lt idle free =
     omega (arith, general_put ths t (with_running task x) lt, before, after)
 
 -- the first general work begins on a thread that is not reserved
-pub stands_general_begun : (size : ℕ) (f : Facts) (s : DeskState) (t : ℕ) (task : Task) → Stands size f s → t < size → (thread_at s t).running ≡ None → (thread_at s t).helper ≡ None → first_of s.waiting ≡ Some task → Stands size (added (event.Start t task.id) f) (general_begun task t s)
+pub stands_general_begun : (size : ℕ) (f : Facts) (s : DeskState) (t : ℕ) (task : Task) → Stands size f s → t < size → (thread_at s t).running ≡ None
+    → (thread_at s t).helper ≡ None → first_of s.waiting ≡ Some task → Stands size (added (event.Start t task.id) f) (general_begun task t s)
 stands_general_begun size f s t task st exists idle free first =
     let b : Begun = record { thread = t; id = task.id } in
     let x = thread_at s t in
@@ -161,7 +177,9 @@ stands_general_begun size f s t task st exists idle free first =
           ∙ general_now s.threads t task lt idle free;
     }
 
-general_own : (ths : List ThreadState) (t : ℕ) (task : Task) (helper : ℕ) → t < length ths → (get_or ths t idle_thread).helper ≡ Some helper → (get_or ths t idle_thread).running ≡ None → count_by runs_general (set ths t (with_own_running task (get_or ths t idle_thread))) ≡ count_by runs_general ths
+general_own : (ths : List ThreadState) (t : ℕ) (task : Task) (helper : ℕ) → t < length ths → (get_or ths t idle_thread).helper ≡ Some helper
+    → (get_or ths t idle_thread).running ≡ None
+    → count_by runs_general (set ths t (with_own_running task (get_or ths t idle_thread))) ≡ count_by runs_general ths
 general_own ths t task helper lt is idle =
     let x = get_or ths t idle_thread in
     let before : one_if (runs_general x) ≡ 0 = ap (λ o. one_if (is_some o && is_none x.helper)) idle in
@@ -169,7 +187,9 @@ general_own ths t task helper lt is idle =
     omega (arith, general_put ths t (with_own_running task x) lt, before, after)
 
 -- the helper's first work begins on the helper's thread
-pub stands_own_begun : (size : ℕ) (f : Facts) (s : DeskState) (t helper : ℕ) (task : Task) → Stands size f s → t < size → (thread_at s t).running ≡ None → (thread_at s t).helper ≡ Some helper → first_of (thread_at s t).queue ≡ Some task → Stands size (added (event.Start t task.id) f) (own_begun task t s)
+pub stands_own_begun : (size : ℕ) (f : Facts) (s : DeskState) (t helper : ℕ) (task : Task) → Stands size f s → t < size
+    → (thread_at s t).running ≡ None → (thread_at s t).helper ≡ Some helper → first_of (thread_at s t).queue ≡ Some task
+    → Stands size (added (event.Start t task.id) f) (own_begun task t s)
 stands_own_begun size f s t helper task st exists idle is first =
     let b : Begun = record { thread = t; id = task.id } in
     let x = thread_at s t in

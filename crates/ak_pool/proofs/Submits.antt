@@ -21,7 +21,9 @@ use Rattle.ak_pool.proofs.Works.{fresh_unbegun, unbegun_last, unbegun_kept, one_
 use Rattle.ak_pool.proofs.Growing.{added}
 use Rattle.ak_pool.proofs.Rows.{put_each, IsServing, one_thread, general_put}
 
-over_at : (ended : List ℕ) (finished : List (ℕ × Outcome)) (handed : List Handed) (w : Handed) (helper : ℕ) (b : Bool) → is_for helper w ≡ b → (is_for helper w ≡ true → is_among ended helper ≡ false) → over_in ended finished (handed ++ w ∷ []) helper ≡ over_in ended finished handed helper
+over_at : (ended : List ℕ) (finished : List (ℕ × Outcome)) (handed : List Handed) (w : Handed) (helper : ℕ) (b : Bool) → is_for helper w ≡ b
+    → (is_for helper w ≡ true → is_among ended helper ≡ false)
+    → over_in ended finished (handed ++ w ∷ []) helper ≡ over_in ended finished handed helper
 over_at ended finished handed w helper true e f =
     ap (λ b. b && list_all (λ v. has_finished finished v.id) (filter (is_for helper) (handed ++ w ∷ []))) (f e)
     ∙ sym (ap (λ b. b && list_all (λ v. has_finished finished v.id) (filter (is_for helper) handed)) (f e))
@@ -32,17 +34,22 @@ task_more : (handed : List Handed) (w : Handed) (o : Option ℕ) (running : Opti
 task_more handed w o None h = tt
 task_more handed w o (Some task) h = find_more (λ (x : Handed). x.id == task.id) handed (w ∷ []) _ h
 
-queue_other : (handed : List Handed) (begun : List Begun) (ended : List ℕ) (w : Handed) (o : Option ℕ) (x : ThreadState) → ((helper : ℕ) → o ≡ Some helper → is_for helper w ≡ false) → IsQueueFor handed begun ended o x → IsQueueFor (handed ++ w ∷ []) begun ended o x
+queue_other : (handed : List Handed) (begun : List Begun) (ended : List ℕ) (w : Handed) (o : Option ℕ) (x : ThreadState)
+    → ((helper : ℕ) → o ≡ Some helper → is_for helper w ≡ false) → IsQueueFor handed begun ended o x → IsQueueFor (handed ++ w ∷ []) begun ended o x
 queue_other handed begun ended w None x f h = h
 queue_other handed begun ended w (Some helper) x f h =
     (h.0 ∙ sym (unbegun_kept handed begun (Some helper) w (f helper refl)), h.1)
 
-held_handed : (handed : List Handed) (finished : List (ℕ × Outcome)) (reserved : List Reserved) (ended : List ℕ) (w : Handed) (t : ℕ) → ((helper : ℕ) → is_for helper w ≡ true → is_among ended helper ≡ false) → held_on reserved ended finished (handed ++ w ∷ []) t ≡ held_on reserved ended finished handed t
+held_handed : (handed : List Handed) (finished : List (ℕ × Outcome)) (reserved : List Reserved) (ended : List ℕ) (w : Handed) (t : ℕ)
+    → ((helper : ℕ) → is_for helper w ≡ true → is_among ended helper ≡ false)
+    → held_on reserved ended finished (handed ++ w ∷ []) t ≡ held_on reserved ended finished handed t
 held_handed handed finished reserved ended w t f =
     filter_same (λ r. r.thread == t && not (over_in ended finished (handed ++ w ∷ []) r.helper)) (λ r. r.thread == t && not (over_in ended finished handed r.helper)) reserved
     (each_all (λ r. (r.thread == t && not (over_in ended finished (handed ++ w ∷ []) r.helper)) ≡ (r.thread == t && not (over_in ended finished handed r.helper))) (λ r. ap (λ b. r.thread == t && not b) (over_at ended finished handed w r.helper (is_for r.helper w) refl (f r.helper))) reserved)
 
-thread_handed : (f : Facts) (w : Handed) (t : ℕ) (x : ThreadState) → ((helper : ℕ) → is_for helper w ≡ true → is_among f.ended helper ≡ false) → ((helper : ℕ) → x.helper ≡ Some helper → is_for helper w ≡ false) → ThreadStands f.handed f.begun f.finished f.reserved f.ended t x → ThreadStands (f.handed ++ w ∷ []) f.begun f.finished f.reserved f.ended t x
+thread_handed : (f : Facts) (w : Handed) (t : ℕ) (x : ThreadState) → ((helper : ℕ) → is_for helper w ≡ true → is_among f.ended helper ≡ false)
+    → ((helper : ℕ) → x.helper ≡ Some helper → is_for helper w ≡ false) → ThreadStands f.handed f.begun f.finished f.reserved f.ended t x
+    → ThreadStands (f.handed ++ w ∷ []) f.begun f.finished f.reserved f.ended t x
 thread_handed f w t x live other row =
     record {
       running = row.running;
@@ -51,7 +58,8 @@ thread_handed f w t x live other row =
       queue = queue_other f.handed f.begun f.ended w x.helper x other row.queue;
     }
 
-begun_handed : (f : Facts) (w : Handed) → Each (IsBegunOnce f.handed f.reserved f.begun) f.begun → Each (IsBegunOnce (f.handed ++ w ∷ []) f.reserved f.begun) f.begun
+begun_handed : (f : Facts) (w : Handed) → Each (IsBegunOnce f.handed f.reserved f.begun) f.begun
+    → Each (IsBegunOnce (f.handed ++ w ∷ []) f.reserved f.begun) f.begun
 begun_handed f w h =
     each_map (IsBegunOnce f.handed f.reserved f.begun) (IsBegunOnce (f.handed ++ w ∷ []) f.reserved f.begun) (λ b k. record { work = k.work; is = find_more (λ (x : Handed). x.id == b.id) f.handed (w ∷ []) k.work k.is; on = k.on; once = k.once }) f.begun h
 
@@ -59,14 +67,16 @@ and_false : (b c : Bool) → (b && false && c) ≡ false
 and_false true c = refl
 and_false false c = refl
 
-general_handed : (f : Facts) (w : Handed) → has_begun f.begun w.id ≡ false → general_in (f.handed ++ w ∷ []) f.begun f.finished ≡ general_in f.handed f.begun f.finished
+general_handed : (f : Facts) (w : Handed) → has_begun f.begun w.id ≡ false
+    → general_in (f.handed ++ w ∷ []) f.begun f.finished ≡ general_in f.handed f.begun f.finished
 general_handed f w e =
     sum_by_push (λ v. one_if (is_general v && has_begun f.begun v.id && not (has_finished f.finished v.id))) f.handed w
     ∙ ap (λ b. general_in f.handed f.begun f.finished + one_if b) (ap (λ b. is_general w && b && not (has_finished f.finished w.id)) e ∙ and_false (is_general w) (not (has_finished f.finished w.id)))
     ∙ add-zero (general_in f.handed f.begun f.finished)
 
 -- a general work
-pub stands_general : (size : ℕ) (f : Facts) (s : DeskState) (work : Work) → Stands size f s → Stands size (added (event.Submit s.submits work None) f) (with_general work s)
+pub stands_general : (size : ℕ) (f : Facts) (s : DeskState) (work : Work) → Stands size f s
+    → Stands size (added (event.Submit s.submits work None) f) (with_general work s)
 stands_general size f s work st =
     let w : Handed = record { id = s.submits; work = work; helper = None } in
     let fresh = fresh_unbegun f.handed f.reserved f.begun s.submits st.numbered (omega (arith, st.submits, st.handed_all)) st.begun_once in
@@ -96,11 +106,13 @@ is_for_same helper other e = eqb-true other helper e
 eq_same : (n : ℕ) → (n == n) ≡ true
 eq_same n = eq-eqb n n refl
 
-same_general : (ths : List ThreadState) (p : ℕ) (task : Task) → p < length ths → count_by runs_general (set ths p (with_own task (get_or ths p idle_thread))) ≡ count_by runs_general ths
+same_general : (ths : List ThreadState) (p : ℕ) (task : Task) → p < length ths
+    → count_by runs_general (set ths p (with_own task (get_or ths p idle_thread))) ≡ count_by runs_general ths
 same_general ths p task lt = omega (arith, general_put ths p (with_own task (get_or ths p idle_thread)) lt)
 
 -- a helper's work
-pub stands_helped : (size : ℕ) (f : Facts) (s : DeskState) (work : Work) (helper p : ℕ) → Stands size f s → IsServing size f s helper p → Stands size (added (event.Submit s.submits work (Some helper)) f) (with_helped work p s)
+pub stands_helped : (size : ℕ) (f : Facts) (s : DeskState) (work : Work) (helper p : ℕ) → Stands size f s → IsServing size f s helper p
+    → Stands size (added (event.Submit s.submits work (Some helper)) f) (with_helped work p s)
 stands_helped size f s work helper p st on =
     let w : Handed = record { id = s.submits; work = work; helper = Some helper } in
     let fresh = fresh_unbegun f.handed f.reserved f.begun s.submits st.numbered (omega (arith, st.submits, st.handed_all)) st.begun_once in

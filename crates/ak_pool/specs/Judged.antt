@@ -1,5 +1,5 @@
 -- Whether an event is legal next, and what is left after it, by what a pool keeps beside its history. Own.
-use Rattle.std.specs.Prelude.{ℕ, List, ◌<◌, ◌≡◌, map, true, false, Option, Some, None, is_some, length}
+use Rattle.std.specs.Prelude.{ℕ, List, ◌<◌, ◌≡◌, map, Bool, true, false, MatchBool, Option, Some, None, is_some, length}
 use Rattle.std.specs.Option.{option_map}
 use Rattle.std.specs.List.{position}
 use Rattle.ak_labor.specs.declared.work.Outcome.{Outcome}
@@ -10,6 +10,10 @@ use Rattle.ak_pool.specs.declared.task.Task.{Task}
 use Rattle.ak_pool.specs.Threads.{serves}
 use Rattle.ak_pool.specs.Askers.{RequestsState, with_request, with_answer, with_end, all_fetched, unfetched_of, IsFree, IsUnanswered}
 use Rattle.ak_pool.specs.Desks.{DeskState, thread_at, submitted, is_served, next_of, begun_by, finished_by, fetched, answer_of, answered, ended_at}
+
+-- the answer is whether it is so
+abbrev pub Says : Bool → Type 0 → Type 0
+Says answer P = MatchBool answer P (P → ⊥)
 
 -- the requests after an event that is legal
 abbrev pub requests_noted : Event → RequestsState → RequestsState

@@ -1,10 +1,10 @@
 //! The judge of a history.
 
-ghost use Rattle.std.specs.Prelude.{◌≡◌, ◌<◌, ◌-◌, ◌^◌, length, map, None, OnOk, IfErr, MatchBool};
+ghost use Rattle.std.specs.Prelude.{◌≡◌, ◌<◌, ◌-◌, ◌^◌, length, map, None, OnOk, IfErr};
 ghost use Rattle.ak_history.specs.Legal.{Legal};
 ghost use Rattle.ak_pool.specs.Desks.{thread_at, next_of, begun_by};
 ghost use Rattle.ak_pool.specs.Askers.{IsFree, AreTied};
-ghost use Rattle.ak_pool.specs.Judged.{Fits, FitsRequests, FitsSubmit, FitsStart, FitsFinish, FitsDrain, FitsHelper, FitsEnd, noted, requests_noted};
+ghost use Rattle.ak_pool.specs.Judged.{Says, Fits, FitsRequests, FitsSubmit, FitsStart, FitsFinish, FitsDrain, FitsHelper, FitsEnd, noted, requests_noted};
 ghost use Rattle.ak_pool.specs.Refusals.{IsRefused};
 
 use crate::desk::Desk;
@@ -71,15 +71,14 @@ impl Pool {
 
 // Whether the event is legal next.
 fn fits(desk: &Desk, requests: &Requests, event: &Event) -> bool
-    ensures { MatchBool result (Fits desk.now event.now × FitsRequests requests.now event.now)
-        (Fits desk.now event.now × FitsRequests requests.now event.now → ⊥) }
+    ensures { Says result (Fits desk.now event.now × FitsRequests requests.now event.now) }
 {
     fits_desk(desk, event) && fits_requests(requests, event)
 }
 
 // Whether the event is legal next, by the desk.
 fn fits_desk(desk: &Desk, event: &Event) -> bool
-    ensures { MatchBool result (Fits desk.now event.now) (Fits desk.now event.now → ⊥) }
+    ensures { Says result (Fits desk.now event.now) }
 {
     match event {
         Event::Submit {
@@ -105,7 +104,7 @@ fn fits_desk(desk: &Desk, event: &Event) -> bool
 
 // Whether the event is legal next, by the requests.
 fn fits_requests(requests: &Requests, event: &Event) -> bool
-    ensures { MatchBool result (FitsRequests requests.now event.now) (FitsRequests requests.now event.now → ⊥) }
+    ensures { Says result (FitsRequests requests.now event.now) }
 {
     match event {
         Event::Request { no, asker, num: _ } => fits_request(requests, *no, *asker),
@@ -121,15 +120,14 @@ fn fits_requests(requests: &Requests, event: &Event) -> bool
 
 // Whether the asker may make a request next under the number.
 fn fits_request(requests: &Requests, no: RequestNo, asker: AskerNo) -> bool
-    ensures { MatchBool result ((no ≡ length requests.now.made) × IsFree requests.now asker)
-        ((no ≡ length requests.now.made) × IsFree requests.now asker → ⊥) }
+    ensures { Says result ((no ≡ length requests.now.made) × IsFree requests.now asker) }
 {
     no.number() == requests.made() as u64 && requests.is_free(asker)
 }
 
 // Whether these are the numbers of the requests, in order.
 fn are_requests(ids: &[RequestNo], made: &[Made]) -> bool
-    ensures { MatchBool result (ids.now ≡ map (λ r. r.no) made.now) (ids.now ≡ map (λ r. r.no) made.now → ⊥) }
+    ensures { Says result (ids.now ≡ map (λ r. r.no) made.now) }
 {
     if ids.len() != made.len() {
         return false;
@@ -144,7 +142,7 @@ fn are_requests(ids: &[RequestNo], made: &[Made]) -> bool
 
 // Whether a work may be handed in next under the number, for the helper if one is named.
 fn fits_submit(desk: &Desk, id: WorkNo, helper: &Option<HelperNo>) -> bool
-    ensures { MatchBool result (FitsSubmit desk.now id helper.now) (FitsSubmit desk.now id helper.now → ⊥) }
+    ensures { Says result (FitsSubmit desk.now id helper.now) }
 {
     if desk.is_closed() || id.number() != desk.submits() {
         return false;
@@ -154,7 +152,7 @@ fn fits_submit(desk: &Desk, id: WorkNo, helper: &Option<HelperNo>) -> bool
 
 // Whether the thread may begin the work next.
 fn fits_start(desk: &Desk, thread: ThreadNo, id: WorkNo) -> bool
-    ensures { MatchBool result (FitsStart desk.now thread id) (FitsStart desk.now thread id → ⊥) }
+    ensures { Says result (FitsStart desk.now thread id) }
 {
     let place = thread.number() as usize;
     if desk.is_closed() || place >= desk.threads() {
@@ -171,7 +169,7 @@ fn fits_start(desk: &Desk, thread: ThreadNo, id: WorkNo) -> bool
 
 // Whether the thread runs the work, and the outcome is its value.
 fn fits_finish(desk: &Desk, thread: ThreadNo, id: WorkNo, outcome: Outcome) -> bool
-    ensures { MatchBool result (FitsFinish desk.now thread id outcome) (FitsFinish desk.now thread id outcome → ⊥) }
+    ensures { Says result (FitsFinish desk.now thread id outcome) }
 {
     let place = thread.number() as usize;
     if place >= desk.threads() {
@@ -191,7 +189,7 @@ fn fits_finish(desk: &Desk, thread: ThreadNo, id: WorkNo, outcome: Outcome) -> b
 
 // Whether these are the finished works that were not fetched.
 fn fits_drain(desk: &Desk, ids: &Ids) -> bool
-    ensures { MatchBool result (FitsDrain desk.now ids.now) (FitsDrain desk.now ids.now → ⊥) }
+    ensures { Says result (FitsDrain desk.now ids.now) }
 {
     if desk.is_closed() {
         return false;
@@ -201,7 +199,7 @@ fn fits_drain(desk: &Desk, ids: &Ids) -> bool
 
 // Whether these are the numbers of the works, in order.
 fn are_ids(ids: &[WorkNo], works: &[(WorkNo, Outcome)]) -> bool
-    ensures { MatchBool result (ids.now ≡ map (λ work. work.0) works.now) (ids.now ≡ map (λ work. work.0) works.now → ⊥) }
+    ensures { Says result (ids.now ≡ map (λ work. work.0) works.now) }
 {
     if ids.len() != works.len() {
         return false;
@@ -216,7 +214,7 @@ fn are_ids(ids: &[WorkNo], works: &[(WorkNo, Outcome)]) -> bool
 
 // Whether a helper may be asked for next under the number, with the answer.
 fn fits_helper(desk: &Desk, no: HelperNo, answer: &Option<ThreadNo>) -> bool
-    ensures { MatchBool result (FitsHelper desk.now no answer.now) (FitsHelper desk.now no answer.now → ⊥) }
+    ensures { Says result (FitsHelper desk.now no answer.now) }
 {
     if desk.is_closed() || no.number() != desk.helpers() {
         return false;
@@ -230,7 +228,7 @@ fn fits_helper(desk: &Desk, no: HelperNo, answer: &Option<ThreadNo>) -> bool
 
 // Whether the helper may be ended next.
 fn fits_end(desk: &Desk, no: HelperNo) -> bool
-    ensures { MatchBool result (FitsEnd desk.now no) (FitsEnd desk.now no → ⊥) }
+    ensures { Says result (FitsEnd desk.now no) }
 {
     if desk.is_closed() {
         return false;

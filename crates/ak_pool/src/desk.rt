@@ -199,7 +199,8 @@ impl Desk {
 
     /// Puts the finished works that were not fetched behind those of `into`.
     pub fn copy_owed(&self, into: &mut Arrivals) -> Result<(), NoMemory>
-        ensures { OnOk result (into.new ≡ record into.old { works = into.old.works ++ self.now.owed }) }
+        ensures { OnOk result
+            (into.new ≡ record into.old { works = into.old.works ++ self.now.owed }) }
     {
         for pair in self.owed.as_slice() {
             into.push(*pair)?;

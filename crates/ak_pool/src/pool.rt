@@ -1,6 +1,6 @@
 //! The pool.
 
-ghost use Rattle.std.specs.Prelude.{ℕ, ⊤, MatchBool, ◌≡◌, ◌<◌, ◌≤◌, ◌+◌, ◌-◌, ◌^◌, ◌↔◌, [], ◌∷◌, ◌++◌, Some, None, true, false, count_by, length, OnOk, OnErr, IfOk};
+ghost use Rattle.std.specs.Prelude.{ℕ, ◌≡◌, ◌<◌, ◌≤◌, ◌+◌, ◌-◌, ◌^◌, ◌↔◌, [], ◌∷◌, ◌++◌, Some, None, true, false, count_by, length, OnOk, OnErr, IfOk};
 ghost use Rattle.std.specs.List.{list_any};
 ghost use Rattle.ak_history.specs.Events.{is_submit, is_helper_new, is_close, is_running, is_active, owed, helper_answer, free_threads, asked, unfetched, is_fetched, is_answered, has_left};
 ghost use Rattle.ak_history.specs.Legal.{Legal, IsLegalAfter, IsServed, IsIdle};
@@ -50,7 +50,12 @@ impl Model for Pool {
 
     ghost use Rattle.ak_pool.specs.KeptPools.{IsLegalPool};
 
-    ghost view = { λ p. record { threads = p.threads; askers = p.askers; history = p.events.items; spare = p.spare } };
+    ghost view = { λ p. record {
+      threads = p.threads;
+      askers = p.askers;
+      history = p.events.items;
+      spare = p.spare;
+    } };
 
     ghost invariant = { IsLegalPool };
 }
@@ -62,7 +67,8 @@ impl Pool {
     ///
     /// `NoMemory`.
     pub fn make(alloc: Global, threads: u32, askers: u32) -> Result<Pool, NoMemory>
-        ensures { IfOk result (λ p. p ≡ record { threads = threads; askers = askers; history = []; spare = 0 }) }
+        ensures { IfOk result (λ p. p
+            ≡ record { threads = threads; askers = askers; history = []; spare = 0 }) }
     {
         let desk = Desk::make(alloc, threads)?;
         let requests = Requests::make(alloc, askers)?;
@@ -110,7 +116,8 @@ impl Pool {
         requires numbers { count_by is_submit self.old.history < 2 ^ 32 - 1 }
         requires served { IsServed self.old.history helper }
         ensures number { IfOk result (λ id. id ≡ count_by is_submit self.old.history) }
-        ensures ok { IfOk result (λ id. self.new.history ≡ self.old.history ++ Event.Submit id work helper ∷ []) }
+        ensures ok { IfOk result (λ id. self.new.history
+            ≡ self.old.history ++ Event.Submit id work helper ∷ []) }
         ensures err { OnErr result (self.new ≡ self.old) }
         ensures threads { self.new.threads ≡ self.old.threads }
         ensures askers { self.new.askers ≡ self.old.askers }
@@ -155,8 +162,10 @@ impl Pool {
 
     /// The thread ends the work that it has begun; the outcome is the work's value. It takes no memory.
     pub fn finish(&mut self, thread: ThreadNo, id: WorkNo, outcome: Outcome)
-        requires { IsLegalAfter self.old.threads self.old.askers self.old.history (Event.Finish thread id outcome) }
-        ensures history { self.new.history ≡ self.old.history ++ Event.Finish thread id outcome ∷ [] }
+        requires { IsLegalAfter self.old.threads self.old.askers self.old.history
+            (Event.Finish thread id outcome) }
+        ensures history { self.new.history
+            ≡ self.old.history ++ Event.Finish thread id outcome ∷ [] }
         ensures threads { self.new.threads ≡ self.old.threads }
         ensures askers { self.new.askers ≡ self.old.askers }
         ensures spare { self.new.spare ≡ self.old.spare }
@@ -179,7 +188,8 @@ impl Pool {
         requires open { IsOpen self.old.history }
         requires idle { IsIdle self.old.askers self.old.history asker }
         ensures number { IfOk result (λ no. no ≡ length (asked self.old.history)) }
-        ensures ok { IfOk result (λ no. self.new.history ≡ self.old.history ++ Event.Request no asker num ∷ []) }
+        ensures ok { IfOk result (λ no. self.new.history
+            ≡ self.old.history ++ Event.Request no asker num ∷ []) }
         ensures err { OnErr result (self.new ≡ self.old) }
         ensures threads { self.new.threads ≡ self.old.threads }
         ensures askers { self.new.askers ≡ self.old.askers }
@@ -231,8 +241,8 @@ impl Pool {
         requires open { IsOpen self.old.history }
         requires room { 0 < self.old.spare }
         ensures brought { OnOk result (into.new ≡ brought self.old.askers self.old.history) }
-        ensures ok { OnOk result (self.new.history
-            ≡ self.old.history ++ Event.Drain (owed self.old.history) (unfetched self.old.history) ∷ []) }
+        ensures ok { OnOk result (self.new.history ≡ self.old.history
+            ++ Event.Drain (owed self.old.history) (unfetched self.old.history) ∷ []) }
         ensures err { OnErr result (self.new ≡ self.old) }
         ensures threads { self.new.threads ≡ self.old.threads }
         ensures askers { self.new.askers ≡ self.old.askers }
@@ -259,8 +269,8 @@ impl Pool {
         requires numbers { count_by is_helper_new self.old.history < 2 ^ 32 - 1 }
         ensures answer { result ≡ helper_answer self.old.threads self.old.history }
         ensures refused { (result ≡ None) ↔ (free_threads self.old.threads self.old.history ≡ 0) }
-        ensures history { self.new.history
-            ≡ self.old.history ++ Event.HelperNew (count_by is_helper_new self.old.history) result ∷ [] }
+        ensures history { self.new.history ≡ self.old.history
+            ++ Event.HelperNew (count_by is_helper_new self.old.history) result ∷ [] }
         ensures threads { self.new.threads ≡ self.old.threads }
         ensures askers { self.new.askers ≡ self.old.askers }
         ensures spare { self.new.spare + 1 ≡ self.old.spare }
@@ -351,7 +361,8 @@ impl Pool {
     pub fn may_start(&self, thread: ThreadNo) -> Option<WorkNo>
         requires exists { thread < self.now.threads }
         requires idle { is_running self.now.history thread ≡ false }
-        ensures { (id : ℕ) → (result ≡ Some id) ↔ MayStart self.now.threads self.now.history thread id }
+        ensures { (id : ℕ)
+            → (result ≡ Some id) ↔ MayStart self.now.threads self.now.history thread id }
     {
         if self.desk.is_closed() {
             return None;

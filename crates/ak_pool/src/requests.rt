@@ -1,7 +1,8 @@
 //! What a pool keeps of its askers and their requests beside its history.
 
-ghost use Rattle.std.specs.Prelude.{◌≡◌, ◌<◌, ◌≤◌, ◌+◌, ◌^◌, ◌++◌, Some, None, OnOk, OnErr, IfOk, MatchBool, length, map, slice_get};
+ghost use Rattle.std.specs.Prelude.{◌≡◌, ◌<◌, ◌≤◌, ◌+◌, ◌^◌, ◌++◌, Some, None, OnOk, OnErr, IfOk, length, map, slice_get};
 ghost use Rattle.ak_base.specs.Lists.{is_empty_list};
+ghost use Rattle.ak_pool.specs.Judged.{Says};
 ghost use Rattle.ak_pool.specs.Askers.{nothing_asked, asker_at, made_at, with_request, with_answer, with_end, all_fetched, unfetched_of, left_of, IsFree, IsUnanswered, AreTied, due_of, pair_of};
 
 use ak_base::list::{Items, NoMemory};
@@ -84,7 +85,7 @@ impl Requests {
 
     /// Whether the asker has not ended and waits for no answer.
     pub fn is_free(&self, asker: AskerNo) -> bool
-        ensures { MatchBool result (IsFree self.now asker) (IsFree self.now asker → ⊥) }
+        ensures { Says result (IsFree self.now asker) }
     {
         match self.asker(asker) {
             None => false,
@@ -94,7 +95,7 @@ impl Requests {
 
     /// Whether the request was fetched and is not answered.
     pub fn is_unanswered(&self, no: RequestNo) -> bool
-        ensures { MatchBool result (IsUnanswered self.now no) (IsUnanswered self.now no → ⊥) }
+        ensures { Says result (IsUnanswered self.now no) }
     {
         let place = no.number() as usize;
         place < self.fetched && self.made[place].answer.is_none()
@@ -172,8 +173,10 @@ impl Requests {
 
     /// Puts the requests that were not fetched behind those of `into`, and how many askers have not ended.
     pub fn copy_unfetched(&self, into: &mut Arrivals) -> Result<(), NoMemory>
-        ensures { OnOk result (into.new
-            ≡ record into.old { requests = into.old.requests ++ map pair_of (unfetched_of self.now); left = left_of self.now }) }
+        ensures { OnOk result (into.new ≡ record into.old {
+          requests = into.old.requests ++ map pair_of (unfetched_of self.now);
+          left = left_of self.now;
+        }) }
     {
         for made in self.unfetched() {
             into.push_request(made.no, made.num)?;

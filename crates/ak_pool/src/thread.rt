@@ -26,7 +26,12 @@ impl Model for Thread {
 
     ghost Value = { ThreadState };
 
-    ghost view = { λ t. record { running = t.running; helper = t.helper; ended = t.ended; queue = t.queue.items } };
+    ghost view = { λ t. record {
+      running = t.running;
+      helper = t.helper;
+      ended = t.ended;
+      queue = t.queue.items;
+    } };
 }
 
 impl Thread {
