@@ -81,7 +81,8 @@ impl Source for MemSource {
     fn read(&mut self, room: &mut [u8]) -> Result<usize, ReadFailed>
         ensures fails { IsErr result ↔ Contains self.old.failing self.old.next }
         ensures failed { OnErr result (self.new ≡ source_failed self.old) }
-        ensures count { IfOk result (λ n. n ≡ min (min self.old.piece (length room.old)) (length self.old.left)) }
+        ensures count { IfOk result
+            (λ n. n ≡ min (min self.old.piece (length room.old)) (length self.old.left)) }
         ensures room { IfOk result (λ n. take n room.new ≡ take n self.old.left) }
         ensures end { IfOk result (λ n. 0 < length room.old → ((n ≡ 0) ↔ (self.old.left ≡ []))) }
         ensures gave { IfOk result (λ n. self.new ≡ source_gave n self.old) }

@@ -38,7 +38,8 @@ pub trait Sink {
         ensures some { IfOk result (λ n. 0 < length piece.now → 0 < n) }
 
         // A sink goes on telling, or being silent.
-        ensures takes { IfOk result (λ n. taken self.new ≡ grown (taken self.old) (take n piece.now)) }
+        ensures takes { IfOk result (λ n. taken self.new
+            ≡ grown (taken self.old) (take n piece.now)) }
         ensures failed { OnErr result (taken self.new ≡ taken self.old) }
         ensures never_falls { faults self.old ≤ faults self.new }
         ensures cause { OnErr result (Rose (faults self.old) (faults self.new)) };

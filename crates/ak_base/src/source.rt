@@ -38,7 +38,8 @@ pub trait Source {
         ensures within { IfOk result (λ n. n ≤ length room.old) }
 
         // The bytes at the front of the room were the first of those left. A source goes on telling, or being silent.
-        ensures gives { IfOk result (λ n. with_front (take n room.new) (left self.new) ≡ left self.old) }
+        ensures gives { IfOk result (λ n. with_front (take n room.new) (left self.new)
+            ≡ left self.old) }
         ensures end { IfOk result (λ n. IfSome (left self.old) (λ bytes.
             0 < length room.old → ((n ≡ 0) ↔ (bytes ≡ [])))) }
         ensures failed { OnErr result (left self.new ≡ left self.old) }

@@ -67,7 +67,8 @@ exists_since g groups e =
       | inr m ↦ absurd (true≢false (sym (ap (λ (x : Group). x.decided) (get_or_past groups g _ m)) ∙ e))
     ]
 
-decide_by : (t d : Bool) (g h : ℕ) (groups : List Group) → (h == g) ≡ t → (group_in groups g).decided ≡ d → (cond t (decision d) 0 ≡ 0) ⊎ ((cond t (decision d) 0 ≡ 1) × IsDecided g (with_decided h groups))
+decide_by : (t d : Bool) (g h : ℕ) (groups : List Group) → (h == g) ≡ t → (group_in groups g).decided ≡ d
+    → (cond t (decision d) 0 ≡ 0) ⊎ ((cond t (decision d) 0 ≡ 1) × IsDecided g (with_decided h groups))
 decide_by false d g h groups e f = inl refl
 decide_by true true g h groups e f = inl refl
 decide_by true false g h groups e f =

@@ -41,7 +41,10 @@ impl Group {
 
     /// Puts a registration last. After want of memory nothing has changed.
     pub fn note(&mut self, reg: RegNo) -> Result<(), NoMemory>
-        ensures ok { OnOk result (self.new ≡ record self.old { notes = self.old.notes ++ reg ∷ [] }) }
+        ensures ok { OnOk result (self.new ≡ record self.old {
+          notes =
+              self.old.notes ++ reg ∷ [];
+        }) }
         ensures err { OnErr result (self.new ≡ self.old) }
     {
         self.notes.push_back(reg)?;
@@ -78,7 +81,10 @@ impl Group {
     pub fn set_part(&mut self, k: u32, num: Num) -> bool
         requires { k < length self.old.parts }
         ensures all { result ≡ has_all self.new.parts }
-        ensures parts { self.new ≡ record self.old { parts = slice_set self.old.parts k (Some num) } }
+        ensures parts { self.new ≡ record self.old {
+          parts =
+              slice_set self.old.parts k (Some num);
+        } }
     {
         self.parts[k as usize] = Some(num);
         has_all_numbers(self.parts.as_slice())

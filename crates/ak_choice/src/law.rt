@@ -30,6 +30,7 @@ pub fn group_keeps_its_notes()
 /// first, and leave none: what a choice takes at once as it is decided.
 #[tactic(auto, using(crate::proofs::Calls::notes_exactly))]
 pub fn notes_one_at_a_time_are_all_that_were_noted()
-    ensures { (g : ℕ) (registrations : List ℕ) (groups after : List Group) → NotesGiven g registrations groups after
+    ensures { (g : ℕ) (registrations : List ℕ) (groups after : List Group)
+        → NotesGiven g registrations groups after
         ↔ ((registrations ≡ (group_in groups g).notes) × (after ≡ without_notes g groups)) }
 {}

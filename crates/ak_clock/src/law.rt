@@ -11,13 +11,15 @@ ghost use Rattle.ak_clock.specs.Order.{number_of, AreByTime};
 /// The alarms that are due come in order of time, and of number where the times are equal.
 #[tactic(auto, using(crate::proofs::Due::due_in_order))]
 pub fn due_alarms_come_in_order()
-    ensures { (c : Clock) (low high : ℕ) → AreNumbered number_of low high c.alarms → AreByTime (due_alarms c) }
+    ensures { (c : Clock) (low high : ℕ) → AreNumbered number_of low high c.alarms
+        → AreByTime (due_alarms c) }
 {}
 
 /// The alarms that are due are those pending ones whose time has come, each as often: as many of them pass any test.
 #[tactic(auto, using(crate::proofs::Same::same_alarms))]
 pub fn due_alarms_are_those_whose_time_has_come()
-    ensures { (p : Alarm → Bool) (c : Clock) → count_by p (due_alarms c) ≡ count_by p (filter (is_due c.time) c.alarms) }
+    ensures { (p : Alarm → Bool) (c : Clock) → count_by p (due_alarms c)
+        ≡ count_by p (filter (is_due c.time) c.alarms) }
 {}
 
 /// Where no alarm of a number is pending, an abort changes nothing.

@@ -86,7 +86,14 @@ pub goes_past : (left rest : List TextLine) (line : TextLine) (number : ℕ) (r 
     → IsOn left number r whole most → left ≡ line ∷ rest → counts line ≡ false → IsOn rest (number + 1) r whole most
 goes_past left rest line number r whole most h is skip =
     let n = next_line left rest line number r whole most h is in
-    record { at = n.at; texts = n.texts; left_is = n.rest_is; whole_is = sym (skipped r number line (numbered (number + 1) n.texts) skip) ∙ n.whole_is; few = n.few }
+    record {
+      at = n.at;
+      texts = n.texts;
+      left_is = n.rest_is;
+      whole_is = sym (skipped r number line (numbered (number + 1) n.texts) skip)
+          ∙ n.whole_is;
+      few = n.few;
+    }
 
 -- behind a line that was taken
 pub goes_on : (left rest : List TextLine) (line : TextLine) (number : ℕ) (r now : Recorded) (whole : Result Recorded ℕ) (most : ℕ)
@@ -99,12 +106,14 @@ goes_on left rest line number r now whole most h is kept next =
       at = n.at;
       texts = n.texts;
       left_is = n.rest_is;
-      whole_is = sym (ap (λ (o : Option Recorded). walked_next number o (λ x. walked x (numbered (number + 1) n.texts))) next) ∙ sym (taken r number line (numbered (number + 1) n.texts) kept) ∙ n.whole_is;
+      whole_is = sym (ap (λ (o : Option Recorded). walked_next number o (λ x. walked x (numbered (number + 1) n.texts))) next)
+          ∙ sym (taken r number line (numbered (number + 1) n.texts) kept) ∙ n.whole_is;
       few = n.few;
     }
 
 -- at a line that is refused
-pub stops : (X : Type 0) (left rest : List TextLine) (line : TextLine) (number : ℕ) (r now : Recorded) (whole : Result Recorded ℕ) (most : ℕ) (e : HistoryRefused)
+pub stops : (X : Type 0) (left rest : List TextLine) (line : TextLine) (number : ℕ) (r now : Recorded) (whole : Result Recorded ℕ)
+    (most : ℕ) (e : HistoryRefused)
     → IsOn left number r whole most → left ≡ line ∷ rest → counts line ≡ true
     → Takes {X = X} (Err e) number now (line_taken r number line) → Tells (Err e) whole
 stops X left rest line number r now whole most (BadLine at) h is kept refused =

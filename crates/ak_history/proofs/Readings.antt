@@ -90,7 +90,8 @@ one_bad_line bytes first l m h k = err_is (sym (bad_found bytes first l h) ∙ b
 
 pub never_both : (bytes : List ℕ) (first : ℕ) (events : List Event) (lines : List ℕ) (number : ℕ) → HistoryReads bytes first events lines
     → IsFirstBad bytes first number → ⊥
-never_both bytes first events lines number h k = mixed_up (recorded events lines) number (sym (reads_found bytes first events lines h) ∙ bad_found bytes first number k)
+never_both bytes first events lines number h k =
+    mixed_up (recorded events lines) number (sym (reads_found bytes first events lines h) ∙ bad_found bytes first number k)
 
 pub either : (bytes : List ℕ) (first : ℕ)
     → ((events : List Event) × (lines : List ℕ) × HistoryReads bytes first events lines) ⊎ ((number : ℕ) × IsFirstBad bytes first number)

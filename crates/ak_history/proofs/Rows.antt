@@ -44,16 +44,25 @@ just_sound o x word row words left is h places rest =
 
 whom_sound : (word : List ℕ) (words left : List (List ℕ)) (x : Option ℕ) → for_whom_from word words ≡ Some (x, left) → (places : List Place)
     → AllZip Stands places left → AllZip Stands (whom_places x ++ places) (word ∷ words)
-whom_sound word words left x h places rest = of (chosen_part (bytes_eq word (codes "general")) (just None) (cond (bytes_eq word (codes "helper")) (mapped Some thing_at) nowhere) words (Some (x, left)) h)
+whom_sound word words left x h places rest =
+    of (chosen_part (bytes_eq word (codes "general")) (just None) (cond (bytes_eq word (codes "helper")) (mapped Some thing_at) nowhere)
+    words (Some (x, left)) h)
   where
-    on_helper : ((bytes_eq word (codes "helper") ≡ true) × (mapped Some thing_at words ≡ Some (x, left))) ⊎ ((bytes_eq word (codes "helper") ≡ false) × (nowhere words ≡ Some (x, left)))
+    on_helper : ((bytes_eq word (codes "helper") ≡ true) × (mapped Some thing_at words ≡ Some (x, left)))
+        ⊎ ((bytes_eq word (codes "helper") ≡ false) × (nowhere words ≡ Some (x, left)))
         → AllZip Stands (whom_places x ++ places) (word ∷ words)
-    on_helper (inl e) = subst (λ (w : List ℕ). AllZip Stands (whom_places x ++ places) (w ∷ words)) (sym ((bytes_eq-Decides word (codes "helper")).0 e.0)) (mapped_sound Some (codes "helper") whom_places thing_part (λ n. refl) words left x e.1 places rest)
+    on_helper (inl e) = subst (λ (w : List ℕ). AllZip Stands (whom_places x ++ places) (w ∷ words))
+        (sym ((bytes_eq-Decides word (codes "helper")).0 e.0))
+        (mapped_sound Some (codes "helper") whom_places thing_part (λ n. refl) words left x e.1 places rest)
     on_helper (inr e) = let wrong : nowhere words ≡ Some (x, left) = e.1 in absurd cc
 
-    of : ((bytes_eq word (codes "general") ≡ true) × (just None words ≡ Some (x, left))) ⊎ ((bytes_eq word (codes "general") ≡ false) × ((cond (bytes_eq word (codes "helper")) (mapped Some thing_at) nowhere) words ≡ Some (x, left)))
+    of : ((bytes_eq word (codes "general") ≡ true) × (just None words ≡ Some (x, left)))
+        ⊎ ((bytes_eq word (codes "general") ≡ false)
+        × ((cond (bytes_eq word (codes "helper")) (mapped Some thing_at) nowhere) words ≡ Some (x, left)))
         → AllZip Stands (whom_places x ++ places) (word ∷ words)
-    of (inl e) = subst (λ (w : List ℕ). AllZip Stands (whom_places x ++ places) (w ∷ words)) (sym ((bytes_eq-Decides word (codes "general")).0 e.0)) (just_sound None x (codes "general") whom_places words left refl e.1 places rest)
+    of (inl e) = subst (λ (w : List ℕ). AllZip Stands (whom_places x ++ places) (w ∷ words))
+        (sym ((bytes_eq-Decides word (codes "general")).0 e.0))
+        (just_sound None x (codes "general") whom_places words left refl e.1 places rest)
     of (inr e) = on_helper (chosen_part (bytes_eq word (codes "helper")) (mapped Some thing_at) nowhere words (Some (x, left)) e.1)
 
 whom_words_sound : (words left : List (List ℕ)) (x : Option ℕ) → for_whom_at words ≡ Some (x, left) → (places : List Place)
@@ -79,16 +88,25 @@ whom_part = record { sound = whom_words_sound; complete = whom_complete }
 -- ---- what a helper is answered
 answer_sound : (word : List ℕ) (words left : List (List ℕ)) (x : Option ℕ) → answer_from word words ≡ Some (x, left) → (places : List Place)
     → AllZip Stands places left → AllZip Stands (answer_places x ++ places) (word ∷ words)
-answer_sound word words left x h places rest = of (chosen_part (bytes_eq word (codes "granted")) (mapped Some thing_at) (cond (bytes_eq word (codes "refused")) (just None) nowhere) words (Some (x, left)) h)
+answer_sound word words left x h places rest =
+    of (chosen_part (bytes_eq word (codes "granted")) (mapped Some thing_at) (cond (bytes_eq word (codes "refused")) (just None) nowhere)
+    words (Some (x, left)) h)
   where
-    on_refused : ((bytes_eq word (codes "refused") ≡ true) × (just None words ≡ Some (x, left))) ⊎ ((bytes_eq word (codes "refused") ≡ false) × (nowhere words ≡ Some (x, left)))
+    on_refused : ((bytes_eq word (codes "refused") ≡ true) × (just None words ≡ Some (x, left)))
+        ⊎ ((bytes_eq word (codes "refused") ≡ false) × (nowhere words ≡ Some (x, left)))
         → AllZip Stands (answer_places x ++ places) (word ∷ words)
-    on_refused (inl e) = subst (λ (w : List ℕ). AllZip Stands (answer_places x ++ places) (w ∷ words)) (sym ((bytes_eq-Decides word (codes "refused")).0 e.0)) (just_sound None x (codes "refused") answer_places words left refl e.1 places rest)
+    on_refused (inl e) = subst (λ (w : List ℕ). AllZip Stands (answer_places x ++ places) (w ∷ words))
+        (sym ((bytes_eq-Decides word (codes "refused")).0 e.0))
+        (just_sound None x (codes "refused") answer_places words left refl e.1 places rest)
     on_refused (inr e) = let wrong : nowhere words ≡ Some (x, left) = e.1 in absurd cc
 
-    of : ((bytes_eq word (codes "granted") ≡ true) × (mapped Some thing_at words ≡ Some (x, left))) ⊎ ((bytes_eq word (codes "granted") ≡ false) × ((cond (bytes_eq word (codes "refused")) (just None) nowhere) words ≡ Some (x, left)))
+    of : ((bytes_eq word (codes "granted") ≡ true) × (mapped Some thing_at words ≡ Some (x, left)))
+        ⊎ ((bytes_eq word (codes "granted") ≡ false)
+        × ((cond (bytes_eq word (codes "refused")) (just None) nowhere) words ≡ Some (x, left)))
         → AllZip Stands (answer_places x ++ places) (word ∷ words)
-    of (inl e) = subst (λ (w : List ℕ). AllZip Stands (answer_places x ++ places) (w ∷ words)) (sym ((bytes_eq-Decides word (codes "granted")).0 e.0)) (mapped_sound Some (codes "granted") answer_places thing_part (λ n. refl) words left x e.1 places rest)
+    of (inl e) = subst (λ (w : List ℕ). AllZip Stands (answer_places x ++ places) (w ∷ words))
+        (sym ((bytes_eq-Decides word (codes "granted")).0 e.0))
+        (mapped_sound Some (codes "granted") answer_places thing_part (λ n. refl) words left x e.1 places rest)
     of (inr e) = on_refused (chosen_part (bytes_eq word (codes "refused")) (just None) nowhere words (Some (x, left)) e.1)
 
 answer_words_sound : (words left : List (List ℕ)) (x : Option ℕ) → answer_at words ≡ Some (x, left) → (places : List Place)
@@ -331,7 +349,9 @@ has_line e word words = IsLineOf (Of e) (word ∷ words)
 
 submit_sound : (words : List (List ℕ)) (e : Event) → submit_of words ≡ Some e → has_line e (codes "submit") words
 unfolding submit_of
-submit_sound words e h = with_brings (event_sound submit_from (codes "submit") submit_parts (both thing_at (both for_whom_at work_at)) submit_is (λ t. ap (λ (ps : List Place). Exactly (codes "submit") ∷ Thing t.0 ∷ ps) (whom_front t.1.0 (work_places t.1.1))) words e h)
+submit_sound words e h =
+    with_brings (event_sound submit_from (codes "submit") submit_parts (both thing_at (both for_whom_at work_at)) submit_is
+    (λ t. ap (λ (ps : List Place). Exactly (codes "submit") ∷ Thing t.0 ∷ ps) (whom_front t.1.0 (work_places t.1.1))) words e h)
   where
     with_brings : AllZip Stands (event_row e) (codes "submit" ∷ words) → has_line e (codes "submit") words
     with_brings all =
@@ -509,7 +529,8 @@ start_complete words thread id h = event_complete start_from start_parts (both t
 finish_complete : (words : List (List ℕ)) (thread id : ℕ) (outcome : Outcome) → AllZip Stands (Thing thread ∷ Thing id ∷ outcome_places outcome) words
     → finish_of words ≡ Some (event.Finish thread id outcome)
 unfolding finish_of
-finish_complete words thread id outcome h = event_complete finish_from finish_parts (both thing_at (both thing_at outcome_at)) finish_is words (thread, (id, outcome)) h
+finish_complete words thread id outcome h =
+    event_complete finish_from finish_parts (both thing_at (both thing_at outcome_at)) finish_is words (thread, (id, outcome)) h
 
 helper_complete : (words : List (List ℕ)) (helper : ℕ) (answer : Option ℕ) → AllZip Stands (Thing helper ∷ answer_places answer) words
     → helper_of words ≡ Some (event.HelperNew helper answer)
@@ -562,22 +583,41 @@ line_complete line words h = of line words h.row h.brings
     of (Idle n) [] row brings = absurd row
     of (Idle n) (word ∷ words) row brings = first_found first.Idle word words (Idle n) row.0 (idle_complete words n row.1)
     of (Of (event.Submit id work helper)) [] row brings = absurd row
-    of (Of (event.Submit id work helper)) (word ∷ words) row brings = first_found first.Submit word words (Of (event.Submit id work helper)) row.0 (event_line (submit_of words) (event.Submit id work helper) (submit_complete words id work helper row.1))
+    of (Of (event.Submit id work helper)) (word ∷ words) row brings =
+        first_found first.Submit word words (Of (event.Submit id work helper)) row.0
+        (event_line (submit_of words) (event.Submit id work helper) (submit_complete words id work helper row.1))
     of (Of (event.Start thread id)) [] row brings = absurd row
-    of (Of (event.Start thread id)) (word ∷ words) row brings = first_found first.Start word words (Of (event.Start thread id)) row.0 (event_line (start_of words) (event.Start thread id) (start_complete words thread id row.1))
+    of (Of (event.Start thread id)) (word ∷ words) row brings =
+        first_found first.Start word words (Of (event.Start thread id)) row.0
+        (event_line (start_of words) (event.Start thread id) (start_complete words thread id row.1))
     of (Of (event.Finish thread id outcome)) [] row brings = absurd row
-    of (Of (event.Finish thread id outcome)) (word ∷ words) row brings = first_found first.Finish word words (Of (event.Finish thread id outcome)) row.0 (event_line (finish_of words) (event.Finish thread id outcome) (finish_complete words thread id outcome row.1))
+    of (Of (event.Finish thread id outcome)) (word ∷ words) row brings =
+        first_found first.Finish word words (Of (event.Finish thread id outcome)) row.0
+        (event_line (finish_of words) (event.Finish thread id outcome) (finish_complete words thread id outcome row.1))
     of (Of (event.Request q asker n)) [] row brings = absurd row
-    of (Of (event.Request q asker n)) (word ∷ words) row brings = first_found first.Request word words (Of (event.Request q asker n)) row.0 (event_line (request_of words) (event.Request q asker n) (request_complete words q asker n row.1))
+    of (Of (event.Request q asker n)) (word ∷ words) row brings =
+        first_found first.Request word words (Of (event.Request q asker n)) row.0
+        (event_line (request_of words) (event.Request q asker n) (request_complete words q asker n row.1))
     of (Of (event.AskerEnd asker)) [] row brings = absurd row
-    of (Of (event.AskerEnd asker)) (word ∷ words) row brings = first_found first.AskerEnd word words (Of (event.AskerEnd asker)) row.0 (event_line (asker_end_of words) (event.AskerEnd asker) (asker_end_complete words asker row.1))
+    of (Of (event.AskerEnd asker)) (word ∷ words) row brings =
+        first_found first.AskerEnd word words (Of (event.AskerEnd asker)) row.0
+        (event_line (asker_end_of words) (event.AskerEnd asker) (asker_end_complete words asker row.1))
     of (Of (event.Drain ids requests)) [] row brings = absurd row
-    of (Of (event.Drain ids requests)) (word ∷ words) row brings = first_found first.Drain word words (Of (event.Drain ids requests)) row.0 (event_line (drain_of words) (event.Drain ids requests) (drain_complete words ids requests brings row.1))
+    of (Of (event.Drain ids requests)) (word ∷ words) row brings =
+        first_found first.Drain word words (Of (event.Drain ids requests)) row.0
+        (event_line (drain_of words) (event.Drain ids requests) (drain_complete words ids requests brings row.1))
     of (Of (event.Answered q n)) [] row brings = absurd row
-    of (Of (event.Answered q n)) (word ∷ words) row brings = first_found first.Answered word words (Of (event.Answered q n)) row.0 (event_line (answered_of words) (event.Answered q n) (answered_complete words q n row.1))
+    of (Of (event.Answered q n)) (word ∷ words) row brings =
+        first_found first.Answered word words (Of (event.Answered q n)) row.0
+        (event_line (answered_of words) (event.Answered q n) (answered_complete words q n row.1))
     of (Of (event.HelperNew helper answer)) [] row brings = absurd row
-    of (Of (event.HelperNew helper answer)) (word ∷ words) row brings = first_found first.Helper word words (Of (event.HelperNew helper answer)) row.0 (event_line (helper_of words) (event.HelperNew helper answer) (helper_complete words helper answer row.1))
+    of (Of (event.HelperNew helper answer)) (word ∷ words) row brings =
+        first_found first.Helper word words (Of (event.HelperNew helper answer)) row.0
+        (event_line (helper_of words) (event.HelperNew helper answer) (helper_complete words helper answer row.1))
     of (Of (event.HelperEnd helper)) [] row brings = absurd row
-    of (Of (event.HelperEnd helper)) (word ∷ words) row brings = first_found first.HelperEnd word words (Of (event.HelperEnd helper)) row.0 (event_line (helper_end_of words) (event.HelperEnd helper) (helper_end_complete words helper row.1))
+    of (Of (event.HelperEnd helper)) (word ∷ words) row brings =
+        first_found first.HelperEnd word words (Of (event.HelperEnd helper)) row.0
+        (event_line (helper_end_of words) (event.HelperEnd helper) (helper_end_complete words helper row.1))
     of (Of event.Close) [] row brings = absurd row
-    of (Of event.Close) (word ∷ words) row brings = first_found first.Close word words (Of event.Close) row.0 (event_line (close_of words) event.Close (close_complete words row.1))
+    of (Of event.Close) (word ∷ words) row brings =
+        first_found first.Close word words (Of event.Close) row.0 (event_line (close_of words) event.Close (close_complete words row.1))

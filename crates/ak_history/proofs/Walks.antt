@@ -64,10 +64,12 @@ recorded_is a b h k = ap (λ (x : List Event). recorded x a.lines) h ∙ ap (λ 
 pub one_then : (r : Recorded) (row : HistoryLine) (line : TextLine) (rows : List HistoryLine) (lines : List TextLine)
     → with_lines (with_line r line.number row) rows lines ≡ with_lines r (row ∷ rows) (line ∷ lines)
 one_then r row line rows lines =
-    let numbers : (r.lines ++ replicate (count_of_events row) line.number) ++ rows_numbers rows lines ≡ r.lines ++ (replicate (length (line_events row)) line.number ++ rows_numbers rows lines) =
+    let numbers : (r.lines ++ replicate (count_of_events row) line.number) ++ rows_numbers rows lines ≡ r.lines
+    ++ (replicate (length (line_events row)) line.number ++ rows_numbers rows lines) =
     append_assoc r.lines (replicate (count_of_events row) line.number) (rows_numbers rows lines)
     ∙ ap (λ (k : ℕ). r.lines ++ (replicate k line.number ++ rows_numbers rows lines)) (sym (count_is row)) in
-    recorded_is (with_lines (with_line r line.number row) rows lines) (with_lines r (row ∷ rows) (line ∷ lines)) (append_assoc r.history (line_events row) (rows_events rows)) numbers
+    recorded_is (with_lines (with_line r line.number row) rows lines) (with_lines r (row ∷ rows) (line ∷ lines))
+    (append_assoc r.history (line_events row) (rows_events rows)) numbers
 
 pub no_lines : (r : Recorded) (lines : List TextLine) → with_lines r [] lines ≡ r
 no_lines r lines = recorded_is (with_lines r [] lines) r (append-nil r.history) (append-nil r.lines)
@@ -154,7 +156,8 @@ then_same number None f g h = refl
 one_kept : (b : Bool) (line : TextLine) (lines : List TextLine) (r : Recorded) → counts line ≡ b
     → ((next : Recorded) → walked next lines ≡ walk next (filter counts lines))
     → cond b (walked_next line.number (line_taken r line.number line) (λ next. walked next lines)) (walked r lines) ≡ walk r (filter counts (line ∷ lines))
-one_kept true line lines r e ih = rw e (then_same line.number (line_taken r line.number line) (λ next. walked next lines) (λ next. walk next (filter counts lines)) ih)
+one_kept true line lines r e ih =
+    rw e (then_same line.number (line_taken r line.number line) (λ next. walked next lines) (λ next. walk next (filter counts lines)) ih)
 one_kept false line lines r e ih = rw e (ih r)
 
 pub walked_walk : (lines : List TextLine) (r : Recorded) → walked r lines ≡ walk r (filter counts lines)
@@ -200,7 +203,13 @@ one_ok line lines r last (Some next) is h ih =
 one_ok line lines r last None is h ih = absurd (not_both line.number last (sym (stop r line lines is) ∙ h))
 
 pub walk_ok : (lines : List TextLine) (r last : Recorded) → length r.history ≤ most_events → walk r lines ≡ Ok last → AreRows r last lines
-walk_ok [] r last few h = record { rows = []; each = tt; last_is = sym (ok_is h) ∙ sym (no_lines r []); few = subst (λ (x : Recorded). length x.history ≤ most_events) (ok_is h) few }
+walk_ok [] r last few h = record {
+  rows = [];
+  each = tt;
+  last_is = sym (ok_is h) ∙ sym (no_lines r []);
+  few =
+      subst (λ (x : Recorded). length x.history ≤ most_events) (ok_is h) few;
+}
 walk_ok (line ∷ lines) r last few h = one_ok line lines r last (line_taken r line.number line) refl h (λ next. walk_ok lines next last)
 
 -- the first bad line, behind what was read

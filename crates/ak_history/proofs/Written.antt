@@ -172,7 +172,8 @@ text_from first events = numbered first (lines_of (history_text events))
 rows_read : (first : ℕ) (events : List Event) → AllByRecursion IsPlainRow (map line_row (history_lines events))
     → AllZip IsRow (map line_row (history_lines events)) (text_from first events)
 rows_read first events plain =
-    subst (λ (bytes : List ℕ). AllZip IsRow (map line_row (history_lines events)) (numbered first (lines_of bytes))) (sym (text_is (history_lines events) (all_written events)))
+    subst (λ (bytes : List ℕ). AllZip IsRow (map line_row (history_lines events)) (numbered first (lines_of bytes)))
+    (sym (text_is (history_lines events) (all_written events)))
     (rows_from first (map line_row (history_lines events)) plain)
 
 pub history_reads_back : (events : List Event) (first : ℕ) → IsReadable events → (lines : List ℕ) × HistoryReads (history_text events) first events lines
@@ -180,7 +181,8 @@ history_reads_back events first h =
     let plain = rows_plain (history_lines events) (all_written events) (all_in_range events h.in_range) h.short_runs in
     let read = rows_read first events plain in
     let kept : lines_from first (history_text events) ≡ text_from first events = none_skipped (history_lines events) (text_from first events) read in
-    let each : AllZip IsHistoryLine (history_lines events) (text_from first events) = are_lines (history_lines events) (text_from first events) (all_written events) read in (
+    let each : AllZip IsHistoryLine (history_lines events) (text_from first events) =
+    are_lines (history_lines events) (text_from first events) (all_written events) read in (
       rows_numbers (history_lines events) (lines_from first (history_text events)),
       record {
         rows = history_lines events;

@@ -1,5 +1,6 @@
 -- What a list of events says: which works were handed in, begun, finished and fetched, which helpers there are, and which
--- requests were made, fetched and answered. After Async's thread pool in outline, with the numbers and the requests own. Each is a filter or a count over the list.
+-- requests were made, fetched and answered. After Async's thread pool in outline, with the numbers and the requests own. Each is a filter
+-- or a count over the list.
 use Rattle.std.specs.Prelude.{ℕ, ℤ, ◌-◌, zero, suc, List, [], ◌∷◌, ◌++◌, length, filter, find, map, count_by, Bool, true, false, not, ◌&&◌, ◌==◌, Option, Some, None, is_none, if◌then◌else◌}
 use Rattle.std.specs.Option.{option_map}
 use Rattle.std.specs.List.{filter_map, flat_map, list_any, list_all}

@@ -33,21 +33,24 @@ first_word first.Close = codes "close"
 
 abbrev pub all_first_words : List FirstWord
 all_first_words =
-    first.Submit ∷ first.Start ∷ first.Finish ∷ first.Request ∷ first.AskerEnd ∷ first.Drain ∷ first.Answered ∷ first.Idle ∷ first.Helper ∷ first.HelperEnd ∷ first.Close ∷ []
+    first.Submit ∷ first.Start ∷ first.Finish ∷ first.Request ∷ first.AskerEnd ∷ first.Drain ∷ first.Answered ∷ first.Idle ∷ first.Helper
+    ∷ first.HelperEnd ∷ first.Close ∷ []
 
 unfoldable pub first_named : List ℕ → Option FirstWord
 first_named word = find (λ one. bytes_eq (first_word one) word) all_first_words
 
 -- for whom a work is
 abbrev pub for_whom_from : List ℕ → Part (Option ℕ)
-for_whom_from word = if bytes_eq word (codes "general") then (λ words. Some (None, words)) else (if bytes_eq word (codes "helper") then mapped Some thing_at else (λ words. None))
+for_whom_from word = if bytes_eq word (codes "general") then (λ words. Some (None, words)) else
+    (if bytes_eq word (codes "helper") then mapped Some thing_at else (λ words. None))
 
 unfoldable pub for_whom_at : Part (Option ℕ)
 for_whom_at words = word_at words >>= λ w. for_whom_from w.0 w.1
 
 -- what a helper is answered
 abbrev pub answer_from : List ℕ → Part (Option ℕ)
-answer_from word = if bytes_eq word (codes "granted") then mapped Some thing_at else (if bytes_eq word (codes "refused") then (λ words. Some (None, words)) else (λ words. None))
+answer_from word = if bytes_eq word (codes "granted") then mapped Some thing_at else
+    (if bytes_eq word (codes "refused") then (λ words. Some (None, words)) else (λ words. None))
 
 unfoldable pub answer_at : Part (Option ℕ)
 answer_at words = word_at words >>= λ w. answer_from w.0 w.1

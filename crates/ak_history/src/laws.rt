@@ -11,7 +11,8 @@ pub fn one_reading()
         → HistoryReads bytes first a l → HistoryReads bytes first b m → (a ≡ b) × (l ≡ m) }
     ensures bad_line { (bytes : List ℕ) (first : ℕ) (l m : ℕ)
         → IsFirstBad bytes first l → IsFirstBad bytes first m → l ≡ m }
-    ensures not_both { (bytes : List ℕ) (first : ℕ) (events : List Event) (lines : List ℕ) (number : ℕ)
+    ensures not_both { (bytes : List ℕ) (first : ℕ) (events : List Event) (lines : List ℕ)
+        (number : ℕ)
         → HistoryReads bytes first events lines → IsFirstBad bytes first number → ⊥ }
     ensures either { (bytes : List ℕ) (first : ℕ)
         → ((events : List Event) × (lines : List ℕ) × HistoryReads bytes first events lines)

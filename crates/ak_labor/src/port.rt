@@ -55,8 +55,10 @@ pub trait Port {
         requires { IsOpen (asked self.old) (replies self.old) }
         ensures asked { IsAsked Ask.Drain (λ _. Drained into.new)
             (asked self.old) (asked self.new) (replies self.old) (replies self.new) result }
-        ensures arrive { OnOk result (Arrive (outstanding (asked self.old) (replies self.old)) into.new.works) }
-        ensures serves { OnOk result (Serves (askers self.old) (asked self.old) (replies self.old) into.new) }
+        ensures arrive { OnOk result
+            (Arrive (outstanding (asked self.old) (replies self.old)) into.new.works) }
+        ensures serves { OnOk result
+            (Serves (askers self.old) (asked self.old) (replies self.old) into.new) }
         ensures woken { OnOk result (HasWaited (asked self.old) (waits self.old)
             → HasCome (askers self.old) (replies self.old) into.new ⊎ (turns self.new < turns self.old)) }
         ensures threads { threads self.new ≡ threads self.old }
@@ -75,7 +77,8 @@ pub trait Port {
         requires numbers { length (filter_map handed_by (asked self.old)) < 2 ^ 32 - 1 }
         requires served { IsServedBy (asked self.old) (replies self.old) helper }
         ensures number { IfOk result (λ id. id ≡ length (filter_map handed_by (asked self.old))) }
-        ensures asked { IsAsked (Ask.Submit (length (filter_map handed_by (asked self.old))) work helper)
+        ensures asked { IsAsked
+            (Ask.Submit (length (filter_map handed_by (asked self.old))) work helper)
             (λ _. Done) (asked self.old) (asked self.new) (replies self.old) (replies self.new) result }
         ensures threads { threads self.new ≡ threads self.old }
         ensures askers { askers self.new ≡ askers self.old }
@@ -131,7 +134,8 @@ pub trait Port {
     fn wait(&mut self) -> Result<(), PortError<Self::Fault>>
         requires open { IsOpen (asked self.old) (replies self.old) }
         requires drained { list_any is_drained (replies self.old) ≡ true }
-        requires some { CanWait (threads self.old) (askers self.old) (asked self.old) (replies self.old) }
+        requires some { CanWait (threads self.old) (askers self.old) (asked self.old)
+            (replies self.old) }
         ensures no_fault { IsFault result → ⊥ }
         ensures ok { OnOk result (waits self.new ≡ waits self.old ++ length (asked self.old) ∷ []) }
         ensures err { OnErr result (waits self.new ≡ waits self.old) }

@@ -16,7 +16,8 @@ lowered : (lower low high : ℕ) (flushes : List Flush) → lower ≤ low → Ar
 lowered lower low high [] h a = tt
 lowered lower low high (f ∷ fs) h a = (omega (arith, a.0, h), a.1, a.2)
 
-last_flush : (low high i : ℕ) (flushes : List Flush) → low ≤ high → AreFlushes low high flushes → AreFlushes low high (flushes ++ record { ivar = i; count = high } ∷ [])
+last_flush : (low high i : ℕ) (flushes : List Flush) → low ≤ high → AreFlushes low high flushes
+    → AreFlushes low high (flushes ++ record { ivar = i; count = high } ∷ [])
 last_flush low high i [] h a = (h, omega arith, tt)
 last_flush low high i (f ∷ fs) h a = (a.0, a.1, last_flush f.count high i fs a.1 a.2)
 
@@ -29,7 +30,9 @@ rest_flushes k rc high [] a = a
 rest_flushes k rc high (f ∷ fs) a = rest_flushes_by (is_reached k rc f) high f fs a
 
 -- a number is the last item
-pub kept_put : {R : Type 0} (w more : List ℤ) (n k : ℕ) (closed rc : Bool) (items items' : List ℤ) (reads : List R) (flushes : List Flush) (v : ℤ) → IsKept w n k closed rc items reads flushes → closed ≡ false → length reads ≡ 0 → more ≡ w ++ v ∷ [] → items' ≡ items ++ v ∷ [] → IsKept more (n + 1) k closed rc items' reads flushes
+pub kept_put : {R : Type 0} (w more : List ℤ) (n k : ℕ) (closed rc : Bool) (items items' : List ℤ) (reads : List R) (flushes : List Flush)
+    (v : ℤ) → IsKept w n k closed rc items reads flushes → closed ≡ false → length reads ≡ 0 → more ≡ w ++ v ∷ []
+    → items' ≡ items ++ v ∷ [] → IsKept more (n + 1) k closed rc items' reads flushes
 kept_put w more n k closed true items items' reads flushes v s e r m i = absurd (true≢false (sym (s.both refl) ∙ e))
 kept_put w more n k closed false items items' reads flushes v s e r m i = record {
   counted = omega (arith, s.counted, ap length m, length-append w (v ∷ []));
@@ -44,7 +47,9 @@ none_left : (w : List ℤ) (k : ℕ) → [] ≡ drop k w → length w ≤ k
 none_left w k e = omega (arith, ap length e, length-drop k w)
 
 -- a waiting read takes a number
-pub kept_served : {R : Type 0} (w more : List ℤ) (n k : ℕ) (closed rc : Bool) (items : List ℤ) (reads rest : List R) (flushes : List Flush) (v : ℤ) → IsKept w n k closed rc items reads flushes → closed ≡ false → 0 < length reads → more ≡ w ++ v ∷ [] → IsKept more (n + 1) (k + 1) closed rc items rest flushes
+pub kept_served : {R : Type 0} (w more : List ℤ) (n k : ℕ) (closed rc : Bool) (items : List ℤ) (reads rest : List R)
+    (flushes : List Flush) (v : ℤ) → IsKept w n k closed rc items reads flushes → closed ≡ false → 0 < length reads → more ≡ w ++ v ∷ []
+    → IsKept more (n + 1) (k + 1) closed rc items rest flushes
 kept_served w more n k closed true items reads rest flushes v s e r m = absurd (true≢false (sym (s.both refl) ∙ e))
 kept_served w more n k closed false items reads rest flushes v s e r m =
     let none : items ≡ [] = s.hungry e r
@@ -68,7 +73,8 @@ drop_rest : (w : List ℤ) (k : ℕ) (v : ℤ) (rest : List ℤ) → drop k w �
 drop_rest w k v rest e = ap (λ n. drop n w) (add-one k) ∙ drop_next w k v rest e
 
 -- the front item is taken
-pub kept_taken : {R : Type 0} (w : List ℤ) (n k : ℕ) (closed rc : Bool) (items rest : List ℤ) (reads : List R) (flushes : List Flush) (v : ℤ) → IsKept w n k closed rc items reads flushes → items ≡ v ∷ rest → IsKept w n (k + 1) closed rc rest reads flushes
+pub kept_taken : {R : Type 0} (w : List ℤ) (n k : ℕ) (closed rc : Bool) (items rest : List ℤ) (reads : List R) (flushes : List Flush)
+    (v : ℤ) → IsKept w n k closed rc items reads flushes → items ≡ v ∷ rest → IsKept w n (k + 1) closed rc rest reads flushes
 kept_taken w n k closed true items rest reads flushes v s i = absurd (omega (arith, ap length s.left, ap length i))
 kept_taken w n k closed false items rest reads flushes v s i = record {
   counted = s.counted;
@@ -80,7 +86,9 @@ kept_taken w n k closed false items rest reads flushes v s i = record {
 }
 
 -- a flush waits
-pub kept_flush : {R : Type 0} (w : List ℤ) (n k i : ℕ) (closed rc : Bool) (items : List ℤ) (reads : List R) (flushes more : List Flush) → IsKept w n k closed rc items reads flushes → more ≡ flushes ++ record { ivar = i; count = n } ∷ [] → IsKept w n k closed rc items reads more
+pub kept_flush : {R : Type 0} (w : List ℤ) (n k i : ℕ) (closed rc : Bool) (items : List ℤ) (reads : List R) (flushes more : List Flush)
+    → IsKept w n k closed rc items reads flushes → more ≡ flushes ++ record { ivar = i; count = n } ∷ []
+    → IsKept w n k closed rc items reads more
 kept_flush w n k i closed rc items reads flushes more s e = record {
   counted = s.counted;
   within = s.within;
@@ -91,7 +99,8 @@ kept_flush w n k i closed rc items reads flushes more s e = record {
 }
 
 -- a flush is settled
-pub kept_settled : {R : Type 0} (w : List ℤ) (n k : ℕ) (closed rc : Bool) (items : List ℤ) (reads : List R) (flushes rest : List Flush) → IsKept w n k closed rc items reads flushes → rest ≡ without_settled k rc flushes → IsKept w n k closed rc items reads rest
+pub kept_settled : {R : Type 0} (w : List ℤ) (n k : ℕ) (closed rc : Bool) (items : List ℤ) (reads : List R) (flushes rest : List Flush)
+    → IsKept w n k closed rc items reads flushes → rest ≡ without_settled k rc flushes → IsKept w n k closed rc items reads rest
 kept_settled w n k closed rc items reads flushes rest s e = record {
   counted = s.counted;
   within = s.within;
@@ -102,7 +111,8 @@ kept_settled w n k closed rc items reads flushes rest s e = record {
 }
 
 -- no flush is settled behind one that is not
-none_behind : {R : Type 0} (p : plain.Pipe R) (low high : ℕ) (flushes : List Flush) → p.reader_closed ≡ false → p.consumed < low → AreFlushes low high flushes → (filter (plain.is_settled p) flushes ≡ []) × (without_first (plain.is_settled p) flushes ≡ flushes)
+none_behind : {R : Type 0} (p : plain.Pipe R) (low high : ℕ) (flushes : List Flush) → p.reader_closed ≡ false → p.consumed < low
+    → AreFlushes low high flushes → (filter (plain.is_settled p) flushes ≡ []) × (without_first (plain.is_settled p) flushes ≡ flushes)
 none_behind p low high [] c l a = (refl, refl)
 none_behind p low high (f ∷ fs) c l a =
     let waits_on : plain.is_settled p f ≡ false = ap (λ t. t || nat_le f.count p.consumed) c ∙ lt-leb f.count p.consumed (omega (arith, l, a.0))
@@ -116,7 +126,9 @@ or_false : (a b : Bool) → (a || b) ≡ false → (a ≡ false) × (b ≡ false
 or_false true b e = absurd (true≢false e)
 or_false false b e = (refl, e)
 
-settled_by : {R : Type 0} (t : Bool) (p : plain.Pipe R) (high : ℕ) (f : Flush) (fs : List Flush) → plain.is_settled p f ≡ t → AreFlushes f.count high fs → (plain.settlement (first_of (filter (plain.is_settled p) (f ∷ fs))) p ≡ cond t (Some (f.ivar, plain.flush_number p f)) None) × (without_first (plain.is_settled p) (f ∷ fs) ≡ cond t fs (f ∷ fs))
+settled_by : {R : Type 0} (t : Bool) (p : plain.Pipe R) (high : ℕ) (f : Flush) (fs : List Flush) → plain.is_settled p f ≡ t
+    → AreFlushes f.count high fs → (plain.settlement (first_of (filter (plain.is_settled p) (f ∷ fs))) p
+    ≡ cond t (Some (f.ivar, plain.flush_number p f)) None) × (without_first (plain.is_settled p) (f ∷ fs) ≡ cond t fs (f ∷ fs))
 settled_by true p high f fs e a = (
   ap (λ t. plain.settlement (first_of (cond t (f ∷ filter (plain.is_settled p) fs) (filter (plain.is_settled p) fs))) p) e,
   ap (λ t. cond t fs (f ∷ without_first (plain.is_settled p) fs)) e,
@@ -125,16 +137,19 @@ settled_by false p high f fs e a =
     let o = or_false p.reader_closed (nat_le f.count p.consumed) e
     in let rest = none_behind p f.count high fs o.0 (leb-false f.count p.consumed o.1) a
     in (
-      ap (λ t. plain.settlement (first_of (cond t (f ∷ filter (plain.is_settled p) fs) (filter (plain.is_settled p) fs))) p) e ∙ ap (λ r. plain.settlement (first_of r) p) rest.0,
+      ap (λ t. plain.settlement (first_of (cond t (f ∷ filter (plain.is_settled p) fs) (filter (plain.is_settled p) fs))) p) e
+          ∙ ap (λ r. plain.settlement (first_of r) p) rest.0,
       ap (λ t. cond t fs (f ∷ without_first (plain.is_settled p) fs)) e ∙ ap (λ r. f ∷ r) rest.1,
     )
 
 -- the oldest settled flush is the oldest, where that is settled
-pub settled_same : {R : Type 0} (p : plain.Pipe R) (high : ℕ) (flushes : List Flush) → AreFlushes 0 high flushes → plain.settlement (first_of (filter (plain.is_settled p) flushes)) p ≡ front_settled p.consumed p.reader_closed flushes
+pub settled_same : {R : Type 0} (p : plain.Pipe R) (high : ℕ) (flushes : List Flush) → AreFlushes 0 high flushes
+    → plain.settlement (first_of (filter (plain.is_settled p) flushes)) p ≡ front_settled p.consumed p.reader_closed flushes
 settled_same p high [] a = refl
 settled_same p high (f ∷ fs) a = (settled_by (plain.is_settled p f) p high f fs refl a.2).0
 
-pub without_same : {R : Type 0} (p : plain.Pipe R) (high : ℕ) (flushes : List Flush) → AreFlushes 0 high flushes → without_first (plain.is_settled p) flushes ≡ without_settled p.consumed p.reader_closed flushes
+pub without_same : {R : Type 0} (p : plain.Pipe R) (high : ℕ) (flushes : List Flush) → AreFlushes 0 high flushes
+    → without_first (plain.is_settled p) flushes ≡ without_settled p.consumed p.reader_closed flushes
 without_same p high [] a = refl
 without_same p high (f ∷ fs) a = (settled_by (plain.is_settled p f) p high f fs refl a.2).1
 
@@ -148,13 +163,18 @@ pub read_waits : {R : Type 0} (closed : Bool) (reads : List R) → 0 < length (w
 read_waits true reads h = absurd (omega (arith, h))
 read_waits false reads h = (refl, h)
 
-pushed_by : {R : Type 0} (t : Bool) (i : ℕ) (q : plain.Pipe R) → record q { pushbacks = cond t q.pushbacks (q.pushbacks ++ i ∷ []) } ≡ cond t q (plain.with_pushback i q)
+pushed_by : {R : Type 0} (t : Bool) (i : ℕ) (q : plain.Pipe R) → record q { pushbacks = cond t q.pushbacks (q.pushbacks ++ i ∷ []) }
+    ≡ cond t q (plain.with_pushback i q)
 pushed_by true i q = refl
 pushed_by false i q = refl
 
 -- a number is written where no read waits
-pub write_same : {R : Type 0} (budget : ℕ) (w more : List ℤ) (k : ℕ) (closed rc : Bool) (reads : List R) (pushbacks pushed : List ℕ) (flushes : List Flush) (v : ℤ) (i : ℕ) (items : List ℤ) (free : Bool) → closed ≡ false → length reads ≡ 0 → more ≡ w ++ v ∷ [] → items ≡ cond rc [] (drop k more) → free ≡ nat_le (length items) budget → pushed ≡ cond free pushbacks (pushbacks ++ i ∷ [])
-    → (record { served = None; free = free } ≡ plain.wrote v (pipe_of budget w k closed rc reads pushbacks flushes)) × (pipe_of budget more k closed rc reads pushed flushes ≡ plain.after_write v i (pipe_of budget w k closed rc reads pushbacks flushes))
+pub write_same : {R : Type 0} (budget : ℕ) (w more : List ℤ) (k : ℕ) (closed rc : Bool) (reads : List R) (pushbacks pushed : List ℕ)
+    (flushes : List Flush) (v : ℤ) (i : ℕ) (items : List ℤ) (free : Bool) → closed ≡ false → length reads ≡ 0 → more ≡ w ++ v ∷ []
+    → items ≡ cond rc [] (drop k more) → free ≡ nat_le (length items) budget → pushed ≡ cond free pushbacks (pushbacks ++ i ∷ [])
+    → (record { served = None; free = free } ≡ plain.wrote v (pipe_of budget w k closed rc reads pushbacks flushes))
+    × (pipe_of budget more k closed rc reads pushed flushes ≡ plain.after_write v i
+    (pipe_of budget w k closed rc reads pushbacks flushes))
 write_same budget w more k true rc reads pushbacks pushed flushes v i items free e r m l f u = absurd (true≢false e)
 write_same budget w more k false rc (x ∷ xs) pushbacks pushed flushes v i items free e r m l f u = absurd (omega (arith, r))
 write_same {R} budget w more k false rc [] pushbacks pushed flushes v i items free e r m l f u =

@@ -23,7 +23,8 @@ record IsStep {R : Type 0} (p q : plain.Pipe R) (nums : List ℤ) : Type 0 where
   pub out : out q ≡ out p ++ nums
 
 -- a step that leaves what was written and consumed
-still : {R : Type 0} (p q : plain.Pipe R) → q.written ≡ p.written → q.consumed ≡ p.consumed → (0 < length q.reads → length p.written ≤ p.consumed) → (q.reader_closed ≡ true → q.closed ≡ true) → IsSound p → IsStep p q []
+still : {R : Type 0} (p q : plain.Pipe R) → q.written ≡ p.written → q.consumed ≡ p.consumed
+    → (0 < length q.reads → length p.written ≤ p.consumed) → (q.reader_closed ≡ true → q.closed ≡ true) → IsSound p → IsStep p q []
 still p q e f w b s = record {
   sound = record {
     within = omega (arith, s.within, ap length e, f);
@@ -82,14 +83,16 @@ drop_front (x ∷ xs) (suc k) v rest e =
     in (ap (λ r. x ∷ r) d.0, omega (arith, d.1))
 
 -- the items of a pipe whose reader is open
-items_open : {R : Type 0} (rc : Bool) (p : plain.Pipe R) (v : ℤ) (rest : List ℤ) → p.reader_closed ≡ rc → plain.items_of p ≡ v ∷ rest → drop p.consumed p.written ≡ v ∷ rest
+items_open : {R : Type 0} (rc : Bool) (p : plain.Pipe R) (v : ℤ) (rest : List ℤ) → p.reader_closed ≡ rc → plain.items_of p ≡ v ∷ rest
+    → drop p.consumed p.written ≡ v ∷ rest
 items_open true p v rest e f = absurd (nil_cons (sym (ap (λ t. cond t [] (drop p.consumed p.written)) e) ∙ f))
 items_open false p v rest e f = sym (ap (λ t. cond t [] (drop p.consumed p.written)) e) ∙ f
 
 none_left : {R : Type 0} (p : plain.Pipe R) → p.reader_closed ≡ false → plain.items_of p ≡ [] → length p.written ≤ p.consumed
 none_left p e f = omega (arith, ap length (sym (ap (λ t. cond t [] (drop p.consumed p.written)) e) ∙ f), length-drop p.consumed p.written)
 
-read_step : {R : Type 0} (items : List ℤ) (closed : Bool) (r : R) (p : plain.Pipe R) → plain.items_of p ≡ items → p.closed ≡ closed → IsSound p → IsStep p (plain.read_from items closed r p) (front items)
+read_step : {R : Type 0} (items : List ℤ) (closed : Bool) (r : R) (p : plain.Pipe R) → plain.items_of p ≡ items → p.closed ≡ closed
+    → IsSound p → IsStep p (plain.read_from items closed r p) (front items)
 read_step (v ∷ rest) closed r p e f s =
     let d = drop_front p.written p.consumed v rest (items_open p.reader_closed p v rest refl e)
     in record {
@@ -113,9 +116,11 @@ close_step : {R : Type 0} (t : Bool) (p : plain.Pipe R) → IsSound p → IsStep
 close_step true p s = still p p refl refl s.waiting s.both s
 close_step false p s = still p (plain.reads_owed (record p { closed = true })) refl refl (λ h. absurd (omega (arith, h))) (λ e. refl) s
 
-close_read_step : {R : Type 0} (t : Bool) (p : plain.Pipe R) → IsSound p → IsStep p (cond t p (plain.reads_owed (record p { closed = true; reader_closed = true }))) []
+close_read_step : {R : Type 0} (t : Bool) (p : plain.Pipe R) → IsSound p
+    → IsStep p (cond t p (plain.reads_owed (record p { closed = true; reader_closed = true }))) []
 close_read_step true p s = still p p refl refl s.waiting s.both s
-close_read_step false p s = still p (plain.reads_owed (record p { closed = true; reader_closed = true })) refl refl (λ h. absurd (omega (arith, h))) (λ e. refl) s
+close_read_step false p s = still p (plain.reads_owed (record p { closed = true; reader_closed = true })) refl refl
+    (λ h. absurd (omega (arith, h))) (λ e. refl) s
 
 freed_step : {R : Type 0} (t : Bool) (p : plain.Pipe R) → IsSound p → IsStep p (cond t (record p { pushbacks = rest_of p.pushbacks }) p) []
 freed_step true p s = still p (record p { pushbacks = rest_of p.pushbacks }) refl refl s.waiting s.both s
@@ -142,7 +147,8 @@ in_order_from (call ∷ calls) p s =
     ∙ ap (λ xs. xs ++ handed_out calls (called call p)) (sym step.out)
     ∙ in_order_from calls (called call p) step.sound
 
-pub in_order : {R : Type 0} (budget : ℕ) (calls : List (Call R)) → handed_out calls (plain.fresh_pipe budget) ≡ take (after calls (plain.fresh_pipe budget)).consumed (after calls (plain.fresh_pipe budget)).written
+pub in_order : {R : Type 0} (budget : ℕ) (calls : List (Call R)) → handed_out calls (plain.fresh_pipe budget)
+    ≡ take (after calls (plain.fresh_pipe budget)).consumed (after calls (plain.fresh_pipe budget)).written
 in_order budget calls =
     in_order_from calls (plain.fresh_pipe budget) (record { within = omega arith; waiting = λ h. absurd (omega (arith, h)); both = λ e. e })
 

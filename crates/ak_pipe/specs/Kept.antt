@@ -35,7 +35,8 @@ AreFlushes low high (flush ∷ flushes) = (low ≤ flush.count) × (flush.count 
 
 -- what every pipe keeps: the items are what was written and not consumed, none where its reader is closed, and none where a
 -- read waits
-pub record IsKept {R : Type 0} (written : List ℤ) (count consumed : ℕ) (closed reader_closed : Bool) (items : List ℤ) (reads : List R) (flushes : List Flush) : Type 0 where
+pub record IsKept {R : Type 0} (written : List ℤ) (count consumed : ℕ) (closed reader_closed : Bool) (items : List ℤ) (reads : List R)
+    (flushes : List Flush) : Type 0 where
   pub counted : count ≡ length written
   pub within : consumed ≤ count
   pub left : items ≡ (if reader_closed then [] else drop consumed written)

@@ -16,6 +16,7 @@ pub fn numbers_come_out_in_order<R>()
 /// type `R`.
 #[tactic(auto, using(crate::proofs::Order::freed_within, crate::proofs::Order::kept_above))]
 pub fn pushbacks_wait_above_the_budget<R>()
-    ensures within { (p : Pipe R) → length (items_of p) ≤ p.budget → freed_pushbacks p ≡ p.pushbacks }
+    ensures within { (p : Pipe R) → length (items_of p) ≤ p.budget
+        → freed_pushbacks p ≡ p.pushbacks }
     ensures above { (p : Pipe R) → p.budget < length (items_of p) → freed_pushbacks p ≡ [] }
 {}

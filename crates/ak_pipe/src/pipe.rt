@@ -220,7 +220,10 @@ impl<R> Pipe<R> {
         requires open { self.old.closed ≡ false }
         requires unread { self.old.reads ≡ [] }
         ensures served { IfOk result (λ served. served ≡ None) }
-        ensures ok { OnOk result (self.new ≡ record self.old { written = self.old.written ++ num ∷ [] }) }
+        ensures ok { OnOk result (self.new ≡ record self.old {
+          written =
+              self.old.written ++ num ∷ [];
+        }) }
         ensures refused { IfErr result (λ r. r ≡ PutRefused.NoMemory) }
         ensures err { OnErr result (self.new ≡ self.old) }
     {
@@ -274,7 +277,8 @@ impl<R> Pipe<R> {
     // Takes the front item, where there is one.
     fn take_item(&mut self) -> Option<Num>
         ensures item { result ≡ first_of (plain.items_of self.old) }
-        ensures new { self.new ≡ (if is_some result then plain.consumed_one self.old else self.old) }
+        ensures new { self.new
+            ≡ (if is_some result then plain.consumed_one self.old else self.old) }
     {
         let num = self.items.pop_front()?;
         self.consumed += 1;
@@ -308,7 +312,8 @@ impl<R> Pipe<R> {
 // Puts a deferred last, unless the pipe is free.
 fn push_unless(free: bool, pushbacks: &mut VecDeque<IvarNo>, i: IvarNo)
     requires { deque_len pushbacks.old < deque_capacity pushbacks.old }
-    ensures { pushbacks.new.items ≡ (if free then pushbacks.old.items else pushbacks.old.items ++ i ∷ []) }
+    ensures { pushbacks.new.items
+        ≡ (if free then pushbacks.old.items else pushbacks.old.items ++ i ∷ []) }
 {
     if !free {
         pushbacks.push_back_reserved(i);
@@ -322,7 +327,8 @@ fn take_settled(
     reader_closed: bool,
 ) -> Option<(IvarNo, Num)>
     ensures front { result ≡ kept.front_settled consumed reader_closed flushes.old.items }
-    ensures rest { flushes.new.items ≡ kept.without_settled consumed reader_closed flushes.old.items }
+    ensures rest { flushes.new.items ≡ kept.without_settled consumed reader_closed
+        flushes.old.items }
 {
     if is_front_settled(flushes, consumed, reader_closed) {
         let flush = flushes.pop_front()?;

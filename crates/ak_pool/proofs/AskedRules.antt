@@ -88,12 +88,14 @@ waiting_is askers history s a st = of (asker_at s a).waits_for refl
         (none_any (waits history a) (map asking_of s.made)
         (each_at (λ r. waits history a r ≡ false) (map asking_of s.made) (asking_of no_request)
         (λ q lt. ap (waits history a) (asking_is s q (omega (arith, lt, many)))
-        ∙ not_true (waits history a (asking_of (made_at s q))) (λ h. let is = waits_for askers history s a q st (omega (arith, lt, many)) h in absurd (cc (e, is)))))) in
+        ∙ not_true (waits history a (asking_of (made_at s q))) (λ h. let is =
+        waits_for askers history s a q st (omega (arith, lt, many)) h in absurd (cc (e, is)))))) in
         ap (λ l. option_map (λ (r : Asking). r.no) (find (waits history a) l)) st.asked ∙ (ap (option_map (λ (r : Asking). r.no)) none ∙ sym e)
     of (Some q) e =
         let here = waits_at askers history s a q st e in
         let found : find (waits history a) (map asking_of s.made) ≡ Some (asking_at s q) =
-        find_at (waits history a) (map asking_of s.made) (asking_of no_request) q (omega (arith, here.0, many)) (ap (waits history a) (asking_is s q here.0) ∙ here.1)
+        find_at (waits history a) (map asking_of s.made) (asking_of no_request) q (omega (arith, here.0, many))
+        (ap (waits history a) (asking_is s q here.0) ∙ here.1)
         (λ j less. ap (waits history a) (asking_is s j (omega (arith, less, here.0)))
         ∙ not_true (waits history a (asking_of (made_at s j)))
         (λ h. let is = waits_for askers history s a j st (omega (arith, less, here.0)) h in

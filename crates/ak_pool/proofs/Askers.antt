@@ -125,7 +125,8 @@ lasting_put : (s : RequestsState) (a : ℕ) (x : Asker) → a < length s.askers 
 lasting_put s a x lt here others b =
     elim (cases_eq b a) [
       | inl e ↦ λ w. ap (λ n. (asker_at (asker_put a x s) n).ended) e
-          ∙ (ap (λ (y : Asker). y.ended) (asker_same s a x lt) ∙ here (sym (ap is_waiting (asker_same s a x lt)) ∙ (sym (ap (λ n. is_waiting (asker_at (asker_put a x s) n)) e) ∙ w)))
+          ∙ (ap (λ (y : Asker). y.ended) (asker_same s a x lt)
+          ∙ here (sym (ap is_waiting (asker_same s a x lt)) ∙ (sym (ap (λ n. is_waiting (asker_at (asker_put a x s) n)) e) ∙ w)))
       | inr ne ↦ λ w. ap (λ (y : Asker). y.ended) (asker_other s a b x ne) ∙ others b (sym (ap is_waiting (asker_other s a b x ne)) ∙ w)
     ]
 
@@ -196,7 +197,8 @@ tied_request s a n free tied = record { waited_for = λ q lt bare. for q (one_of
     on : (b q : ℕ) → (b ≡ a) ⊎ (b ≡ a → ⊥) → (asker_at s' b).waits_for ≡ Some q → IsWaiting s' b q
     on b q (inl is) e =
         let new : q ≡ length s.made =
-        sym (some_same (length s.made) q (sym (ap (λ (y : Asker). y.waits_for) (asker_same s a x free.0)) ∙ (sym (ap (λ k. (asker_at s' k).waits_for) is) ∙ e))) in
+        sym (some_same (length s.made) q (sym (ap (λ (y : Asker). y.waits_for) (asker_same s a x free.0))
+        ∙ (sym (ap (λ k. (asker_at s' k).waits_for) is) ∙ e))) in
         let same : made_at s' q ≡ next_made a n s = ap (made_at s') new ∙ made_new s a n in
         record {
           made = omega (arith, new, made_more s a n);
@@ -229,7 +231,13 @@ stands_asked size f s a n st free =
       ended = λ b. st.ended b ∙ sym (put_keeps (λ (y : Asker). y.ended) s a b x free.0 refl);
       left = omega (arith, st.left, left_put s a x free.0);
       tied = tied_request s a n free st.tied;
-      counted = omega (arith, st.counted, waiting_put s a x free.0, ap (λ o. bit (is_some o)) free.2, sum_by_push (λ (m : Made). bit (is_bare m)) s.made (next_made a n s));
+      counted = omega (
+        arith,
+        st.counted,
+        waiting_put s a x free.0,
+        ap (λ o. bit (is_some o)) free.2,
+        sum_by_push (λ (m : Made). bit (is_bare m)) s.made (next_made a n s),
+      );
       lasting = lasting_put s a x free.0 (λ w. free.1) st.lasting;
       untold = st.untold;
     }
@@ -340,7 +348,14 @@ stands_answered size f s q v st bare =
       ended = λ b. st.ended b ∙ sym (put_keeps (λ (z : Asker). z.ended) s a b x was.exists refl);
       left = omega (arith, st.left, left_put s a x was.exists);
       tied = tied_answer s q v lt bare.1 st.tied;
-      counted = omega (arith, st.counted, waiting_put s a x was.exists, ap (λ o. bit (is_some o)) was.waits, sum_by-set (λ (m : Made). bit (is_bare m)) s.made q y no_request lt, ap (λ o. bit (is_none o)) bare.1);
+      counted = omega (
+        arith,
+        st.counted,
+        waiting_put s a x was.exists,
+        ap (λ o. bit (is_some o)) was.waits,
+        sum_by-set (λ (m : Made). bit (is_bare m)) s.made q y no_request lt,
+        ap (λ o. bit (is_none o)) bare.1,
+      );
       lasting = lasting_put s a x was.exists (λ w. absurd (cc w)) st.lasting;
       untold = st.untold;
     }

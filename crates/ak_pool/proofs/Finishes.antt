@@ -22,11 +22,13 @@ use Rattle.ak_pool.proofs.Overs.{held_left, list_left, list_other, stands_vacate
 
 finished_apart : (finished : List (ℕ × Outcome)) (x : ℕ × Outcome) (id : ℕ) → (x.0 ≡ id → ⊥) → has_finished (finished ++ x ∷ []) id ≡ has_finished finished id
 finished_apart finished x id ne =
-    any_last (λ (y : ℕ × Outcome). y.0 == id) finished x ∙ ap (λ c. has_finished finished id || (c || false)) (ne_eqb x.0 id ne) ∙ or_not (has_finished finished id)
+    any_last (λ (y : ℕ × Outcome). y.0 == id) finished x ∙ ap (λ c. has_finished finished id || (c || false)) (ne_eqb x.0 id ne)
+    ∙ or_not (has_finished finished id)
 
 finished_now : (finished : List (ℕ × Outcome)) (x : ℕ × Outcome) (id : ℕ) → x.0 ≡ id → has_finished (finished ++ x ∷ []) id ≡ true
 finished_now finished x id e =
-    any_last (λ (y : ℕ × Outcome). y.0 == id) finished x ∙ ap (λ c. has_finished finished id || (c || false)) (eq-eqb x.0 id e) ∙ or_yes (has_finished finished id)
+    any_last (λ (y : ℕ × Outcome). y.0 == id) finished x ∙ ap (λ c. has_finished finished id || (c || false)) (eq-eqb x.0 id e)
+    ∙ or_yes (has_finished finished id)
 
 tests_fewer : (a c e : Bool) → (a && not (c || (e || false))) ≡ ((a && not c) && not e)
 tests_fewer true true e = refl
@@ -38,8 +40,12 @@ tests_fewer false c e = refl
 running_fewer : (begun : List Begun) (finished : List (ℕ × Outcome)) (x : ℕ × Outcome) (u : ℕ)
     → running_on begun (finished ++ x ∷ []) u ≡ filter (λ (b : Begun). not (x.0 == b.id)) (running_on begun finished u)
 running_fewer begun finished x u =
-    filter_same (λ (b : Begun). b.thread == u && not (has_finished (finished ++ x ∷ []) b.id)) (λ (b : Begun). (b.thread == u && not (has_finished finished b.id)) && not (x.0 == b.id)) begun
-    (each_all (λ (b : Begun). (b.thread == u && not (has_finished (finished ++ x ∷ []) b.id)) ≡ ((b.thread == u && not (has_finished finished b.id)) && not (x.0 == b.id))) (λ b. ap (λ c. b.thread == u && not c) (any_last (λ (y : ℕ × Outcome). y.0 == b.id) finished x) ∙ tests_fewer (b.thread == u) (has_finished finished b.id) (x.0 == b.id)) begun)
+    filter_same (λ (b : Begun). b.thread == u && not (has_finished (finished ++ x ∷ []) b.id))
+    (λ (b : Begun). (b.thread == u && not (has_finished finished b.id)) && not (x.0 == b.id)) begun
+    (each_all (λ (b : Begun). (b.thread == u && not (has_finished (finished ++ x ∷ []) b.id))
+    ≡ ((b.thread == u && not (has_finished finished b.id)) && not (x.0 == b.id)))
+    (λ b. ap (λ c. b.thread == u && not c) (any_last (λ (y : ℕ × Outcome). y.0 == b.id) finished x)
+    ∙ tests_fewer (b.thread == u) (has_finished finished b.id) (x.0 == b.id)) begun)
     ∙ sym (filter_filter (λ (b : Begun). b.thread == u && not (has_finished finished b.id)) (λ (b : Begun). not (x.0 == b.id)) begun)
 
 list_gone : (t : ℕ) (task : Task) (id : ℕ) → id ≡ task.id → filter (λ (b : Begun). not (id == b.id)) (begun_list t (Some task)) ≡ []
@@ -62,7 +68,8 @@ pub running_of : (size : ℕ) (f : Facts) (s : DeskState) (t : ℕ) (task : Task
 running_of size f s t task st lt is =
     let row = st.each_thread t lt in
     let runs = row.running ∙ ap (begun_list t) is in
-    let one = each_one (IsBegunOnce f.handed f.reserved f.begun) (λ (b : Begun). b.thread == t && not (has_finished f.finished b.id)) f.begun [] (record { thread = t; id = task.id }) st.begun_once runs in
+    let one = each_one (IsBegunOnce f.handed f.reserved f.begun) (λ (b : Begun). b.thread == t && not (has_finished f.finished b.id))
+    f.begun [] (record { thread = t; id = task.id }) st.begun_once runs in
     let two = and_both (t == t) (has_finished f.finished task.id) one.1 in
     record {
       first = one.0.once;
@@ -82,23 +89,34 @@ over_apart : (f : Facts) (w : Handed) (x : ℕ × Outcome) (helper : ℕ) → Ar
 over_apart f w x helper num found other =
     ap (λ b. is_among f.ended helper && b)
     (all_same (λ v. has_finished (f.finished ++ x ∷ []) v.id) (λ v. has_finished f.finished v.id) (filter (is_for helper) f.handed)
-    (each_map (λ v. (v.id ≡ x.0 → v ≡ w) × (is_for helper v ≡ true)) (λ v. has_finished (f.finished ++ x ∷ []) v.id ≡ has_finished f.finished v.id) (λ v k. finished_apart f.finished x v.id (λ e. absurd (cc (k.1, ap (is_for helper) (k.0 (sym e)), other)))) (filter (is_for helper) f.handed)
-    (each_both (λ v. v.id ≡ x.0 → v ≡ w) (λ v. is_for helper v ≡ true) (filter (is_for helper) f.handed) (each_filter (λ v. v.id ≡ x.0 → v ≡ w) (is_for helper) f.handed (only 0 x.0 w f.handed (numbered_grow 0 f.handed num) found)) (each_passes (is_for helper) f.handed))))
+    (each_map (λ v. (v.id ≡ x.0 → v ≡ w) × (is_for helper v ≡ true)) (λ v. has_finished (f.finished ++ x ∷ []) v.id
+    ≡ has_finished f.finished v.id)
+    (λ v k. finished_apart f.finished x v.id (λ e. absurd (cc (k.1, ap (is_for helper) (k.0 (sym e)), other))))
+    (filter (is_for helper) f.handed)
+    (each_both (λ v. v.id ≡ x.0 → v ≡ w) (λ v. is_for helper v ≡ true) (filter (is_for helper) f.handed)
+    (each_filter (λ v. v.id ≡ x.0 → v ≡ w) (is_for helper) f.handed (only 0 x.0 w f.handed (numbered_grow 0 f.handed num) found))
+    (each_passes (is_for helper) f.handed))))
 
 held_same : (f : Facts) (x : ℕ × Outcome) → ((h : ℕ) → over_in f.ended (f.finished ++ x ∷ []) f.handed h ≡ over_in f.ended f.finished f.handed h)
     → (u : ℕ) → held_on f.reserved f.ended (f.finished ++ x ∷ []) f.handed u ≡ held_on f.reserved f.ended f.finished f.handed u
 held_same f x same u =
-    filter_same (λ r. r.thread == u && not (over_in f.ended (f.finished ++ x ∷ []) f.handed r.helper)) (λ r. r.thread == u && not (over_in f.ended f.finished f.handed r.helper)) f.reserved
-    (each_all (λ r. (r.thread == u && not (over_in f.ended (f.finished ++ x ∷ []) f.handed r.helper)) ≡ (r.thread == u && not (over_in f.ended f.finished f.handed r.helper))) (λ r. ap (λ b. r.thread == u && not b) (same r.helper)) f.reserved)
+    filter_same (λ r. r.thread == u && not (over_in f.ended (f.finished ++ x ∷ []) f.handed r.helper))
+    (λ r. r.thread == u && not (over_in f.ended f.finished f.handed r.helper)) f.reserved
+    (each_all (λ r. (r.thread == u && not (over_in f.ended (f.finished ++ x ∷ []) f.handed r.helper))
+    ≡ (r.thread == u && not (over_in f.ended f.finished f.handed r.helper)))
+    (λ r. ap (λ b. r.thread == u && not b) (same r.helper)) f.reserved)
 
 first_finished : (f : Facts) (x : ℕ × Outcome) → Each (λ id. has_finished f.finished id ≡ true) f.drained
     → Each (λ id. has_finished (f.finished ++ x ∷ []) id ≡ true) f.drained
 first_finished f x h =
-    each_map (λ id. has_finished f.finished id ≡ true) (λ id. has_finished (f.finished ++ x ∷ []) id ≡ true) (λ id k. any_more (λ (y : ℕ × Outcome). y.0 == id) f.finished (x ∷ []) k) f.drained h
+    each_map (λ id. has_finished f.finished id ≡ true) (λ id. has_finished (f.finished ++ x ∷ []) id ≡ true)
+    (λ id k. any_more (λ (y : ℕ × Outcome). y.0 == id) f.finished (x ∷ []) k) f.drained h
 
 not_drained : (f : Facts) (id : ℕ) → has_finished f.finished id ≡ false → Each (λ d. has_finished f.finished d ≡ true) f.drained → is_among f.drained id ≡ false
 not_drained f id e h =
-    none_any (λ d. d == id) f.drained (each_map (λ d. has_finished f.finished d ≡ true) (λ d. (d == id) ≡ false) (λ d k. ne_eqb d id (λ same. absurd (cc (k, e, ap (has_finished f.finished) same)))) f.drained h)
+    none_any (λ d. d == id) f.drained
+    (each_map (λ d. has_finished f.finished d ≡ true) (λ d. (d == id) ≡ false)
+    (λ d k. ne_eqb d id (λ same. absurd (cc (k, e, ap (has_finished f.finished) same)))) f.drained h)
 
 test_done : (a c : Bool) → (a && c && false) ≡ false
 test_done true true = refl
@@ -111,7 +129,8 @@ general_fewer : (f : Facts) (w : Handed) (x : ℕ × Outcome) → AreNumbered 0 
 general_fewer f w x num found of e g =
     let id : w.id ≡ x.0 = found_id x.0 w f.handed found in
     count_one (general_test f.begun (f.finished ++ x ∷ [])) (general_test f.begun f.finished) 0 x.0 w f.handed (numbered_grow 0 f.handed num)
-    (each_all (λ v. (v.id ≡ x.0 → ⊥) → general_test f.begun (f.finished ++ x ∷ []) v ≡ general_test f.begun f.finished v) (λ v ne. ap (λ c. is_general v && has_begun f.begun v.id && not c) (finished_apart f.finished x v.id (λ s. ne (sym s)))) f.handed)
+    (each_all (λ v. (v.id ≡ x.0 → ⊥) → general_test f.begun (f.finished ++ x ∷ []) v ≡ general_test f.begun f.finished v)
+    (λ v ne. ap (λ c. is_general v && has_begun f.begun v.id && not c) (finished_apart f.finished x v.id (λ s. ne (sym s)))) f.handed)
     (ap (λ c. is_general w && has_begun f.begun w.id && not c) (finished_now f.finished x w.id (sym id)) ∙ test_done (is_general w) (has_begun f.begun w.id))
     (ap (λ c. c && has_begun f.begun w.id && not (has_finished f.finished w.id)) of
     ∙ ap (λ c. true && c && not (has_finished f.finished w.id)) (ap (has_begun f.begun) id ∙ e)
@@ -130,7 +149,9 @@ general_stays : (f : Facts) (w : Handed) (x : ℕ × Outcome) → AreNumbered 0 
     → general_in f.handed f.begun (f.finished ++ x ∷ []) ≡ general_in f.handed f.begun f.finished
 general_stays f w x num found of =
     count_same (general_test f.begun (f.finished ++ x ∷ [])) (general_test f.begun f.finished) f.handed
-    (each_map (λ v. v.id ≡ x.0 → v ≡ w) (λ v. general_test f.begun (f.finished ++ x ∷ []) v ≡ general_test f.begun f.finished v) (λ v same. general_same_at f w x v of same (cases_eq v.id x.0)) f.handed (only 0 x.0 w f.handed (numbered_grow 0 f.handed num) found))
+    (each_map (λ v. v.id ≡ x.0 → v ≡ w) (λ v. general_test f.begun (f.finished ++ x ∷ []) v ≡ general_test f.begun f.finished v)
+    (λ v same. general_same_at f w x v of same (cases_eq v.id x.0)) f.handed
+    (only 0 x.0 w f.handed (numbered_grow 0 f.handed num) found))
 
 -- the thread of a general work is not given back, since it was not reserved
 not_left : (z : ThreadState) → z.ended ≡ false → vacated z ≡ z
@@ -185,16 +206,19 @@ stands_general_finished size f s t task outcome st exists is free =
     let run = running_of size f s t task st exists is in
     let w : Handed = record { id = task.id; work = task.work; helper = None } in
     let found : work_in f.handed task.id ≡ Some w = subst (λ o. IsTaskFor f.handed None o) is (subst (λ o. IsTaskFor f.handed o x.running) free row.task) in
-    let same : (h : ℕ) → over_in f.ended (f.finished ++ p ∷ []) f.handed h ≡ over_in f.ended f.finished f.handed h = λ h. over_apart f w p h st.numbered found refl in
+    let same : (h : ℕ) → over_in f.ended (f.finished ++ p ∷ []) f.handed h ≡ over_in f.ended f.finished f.handed h =
+    λ h. over_apart f w p h st.numbered found refl in
     let queue = subst (λ o. IsQueueFor f.handed f.begun f.ended o x) free row.queue in
     let stays : vacated z ≡ z = not_left z queue.1 in
     let inner : ThreadStands f.handed f.begun (f.finished ++ p ∷ []) f.reserved f.ended t z = record {
-      running = running_fewer f.begun f.finished p t ∙ ap (filter (λ (b : Begun). not (task.id == b.id))) (row.running ∙ ap (begun_list t) is) ∙ list_gone t task task.id refl;
+      running = running_fewer f.begun f.finished p t ∙ ap (filter (λ (b : Begun). not (task.id == b.id)))
+          (row.running ∙ ap (begun_list t) is) ∙ list_gone t task task.id refl;
       task = tt;
       held = held_same f p same t ∙ row.held;
       queue = subst (λ o. IsQueueFor f.handed f.begun f.ended o z) (sym free) queue;
     } in
-    let here : ThreadStands f.handed f.begun (f.finished ++ p ∷ []) f.reserved f.ended t (without_running x) = subst (λ y. ThreadStands f.handed f.begun (f.finished ++ p ∷ []) f.reserved f.ended t y) (sym stays) inner in
+    let here : ThreadStands f.handed f.begun (f.finished ++ p ∷ []) f.reserved f.ended t (without_running x) =
+    subst (λ y. ThreadStands f.handed f.begun (f.finished ++ p ∷ []) f.reserved f.ended t y) (sym stays) inner in
     record {
       size = length-set s.threads t (without_running x) ∙ st.size;
       submits = st.submits;
@@ -210,9 +234,14 @@ stands_general_finished size f s t task outcome st exists is free =
       granted_once = st.granted_once;
       ended_known = st.ended_known;
       waiting = st.waiting;
-      owed = ap (λ q. q ++ p ∷ []) st.owed ∙ sym (filter_last (λ (y : ℕ × Outcome). not (is_among f.drained y.0)) f.finished p (ap not (not_drained f task.id run.unfinished st.finished_first)));
+      owed = ap (λ q. q ++ p ∷ []) st.owed
+          ∙ sym (filter_last (λ (y : ℕ × Outcome). not (is_among f.drained y.0)) f.finished p
+          (ap not (not_drained f task.id run.unfinished st.finished_first)));
       each_thread = λ u below. put_each (ThreadStands f.handed f.begun (f.finished ++ p ∷ []) f.reserved f.ended) s.threads t (without_running x) lt here
-          (λ v vlt ne. thread_apart f v (thread_at s v) p (λ other o_is e. ne (apart size f s t v task other st run (omega (arith, vlt, st.size)) o_is e)) (held_same f p same v ∙ (st.each_thread v (omega (arith, vlt, st.size))).held) (st.each_thread v (omega (arith, vlt, st.size))))
+          (λ v vlt ne. thread_apart f v (thread_at s v) p
+          (λ other o_is e. ne (apart size f s t v task other st run (omega (arith, vlt, st.size)) o_is e))
+          (held_same f p same v ∙ (st.each_thread v (omega (arith, vlt, st.size))).held)
+          (st.each_thread v (omega (arith, vlt, st.size))))
           u (omega (arith, below, st.size));
       general =
           let more = general_fewer f w p st.numbered found refl run.begun run.unfinished in
@@ -232,20 +261,25 @@ stands_own_finished size f s t helper task outcome st exists is has =
     let row = st.each_thread t exists in
     let run = running_of size f s t task st exists is in
     let w : Handed = record { id = task.id; work = task.work; helper = Some helper } in
-    let found : work_in f.handed task.id ≡ Some w = subst (λ o. IsTaskFor f.handed (Some helper) o) is (subst (λ o. IsTaskFor f.handed o x.running) has row.task) in
+    let found : work_in f.handed task.id ≡ Some w =
+    subst (λ o. IsTaskFor f.handed (Some helper) o) is (subst (λ o. IsTaskFor f.handed o x.running) has row.task) in
     let held = row.held ∙ ap (reserved_list t) has in
     let of = helper_of size f s t helper st held in
     let queue = subst (λ o. IsQueueFor f.handed f.begun f.ended o x) has row.queue in
-    let same : (h : ℕ) → (h ≡ helper → ⊥) → over_in f.ended (f.finished ++ p ∷ []) f.handed h ≡ over_in f.ended f.finished f.handed h = λ h ne. over_apart f w p h st.numbered found (ne_eqb helper h (λ e. ne (sym e))) in
+    let same : (h : ℕ) → (h ≡ helper → ⊥) → over_in f.ended (f.finished ++ p ∷ []) f.handed h ≡ over_in f.ended f.finished f.handed h =
+    λ h ne. over_apart f w p h st.numbered found (ne_eqb helper h (λ e. ne (sym e))) in
     let left = held_left f.reserved f.ended f.ended f.finished (f.finished ++ p ∷ []) f.handed helper of.goes_on same in
     let first = each_last (λ (y : ℕ × Outcome). has_begun f.begun y.0 ≡ true) f.finished p st.begun_first run.begun in
     let runs : running_on f.begun (f.finished ++ p ∷ []) t ≡ [] =
-    running_fewer f.begun f.finished p t ∙ ap (filter (λ (b : Begun). not (task.id == b.id))) (row.running ∙ ap (begun_list t) is) ∙ list_gone t task task.id refl in
+    running_fewer f.begun f.finished p t ∙ ap (filter (λ (b : Begun). not (task.id == b.id))) (row.running ∙ ap (begun_list t) is)
+    ∙ list_gone t task task.id refl in
     let over : over_in f.ended (f.finished ++ p ∷ []) f.handed helper ≡ is_left z =
     over_by_thread f.handed f.begun (f.finished ++ p ∷ []) f.reserved f.ended t helper z st.numbered st.begun_once first runs tt queue of.thread in
     let here : ThreadStands f.handed f.begun (f.finished ++ p ∷ []) f.reserved f.ended t (without_running x) =
     stands_vacated f.handed f.begun (f.finished ++ p ∷ []) f.reserved f.ended t helper z has runs tt
-    (left t ∙ ap (filter (λ (r : Reserved). not (r.helper == helper && over_in f.ended (f.finished ++ p ∷ []) f.handed helper))) held ∙ list_left t helper (over_in f.ended (f.finished ++ p ∷ []) f.handed helper) ∙ ap (λ b. cond b [] (reserved_list t (Some helper))) over)
+    (left t ∙ ap (filter (λ (r : Reserved). not (r.helper == helper && over_in f.ended (f.finished ++ p ∷ []) f.handed helper))) held
+    ∙ list_left t helper (over_in f.ended (f.finished ++ p ∷ []) f.handed helper)
+    ∙ ap (λ b. cond b [] (reserved_list t (Some helper))) over)
     queue in
     record {
       size = length-set s.threads t (without_running x) ∙ st.size;
@@ -262,13 +296,19 @@ stands_own_finished size f s t helper task outcome st exists is has =
       granted_once = st.granted_once;
       ended_known = st.ended_known;
       waiting = st.waiting;
-      owed = ap (λ q. q ++ p ∷ []) st.owed ∙ sym (filter_last (λ (y : ℕ × Outcome). not (is_among f.drained y.0)) f.finished p (ap not (not_drained f task.id run.unfinished st.finished_first)));
+      owed = ap (λ q. q ++ p ∷ []) st.owed
+          ∙ sym (filter_last (λ (y : ℕ × Outcome). not (is_among f.drained y.0)) f.finished p
+          (ap not (not_drained f task.id run.unfinished st.finished_first)));
       each_thread = λ u below. put_each (ThreadStands f.handed f.begun (f.finished ++ p ∷ []) f.reserved f.ended) s.threads t (without_running x) lt here
           (λ v vlt ne. thread_apart f v (thread_at s v) p (λ other o_is e. ne (apart size f s t v task other st run (omega (arith, vlt, st.size)) o_is e))
-          (left v ∙ ap (filter (λ (r : Reserved). not (r.helper == helper && over_in f.ended (f.finished ++ p ∷ []) f.handed helper))) (st.each_thread v (omega (arith, vlt, st.size))).held ∙ list_other v (thread_at s v).helper helper (over_in f.ended (f.finished ++ p ∷ []) f.handed helper) (λ e. ne (one_thread size f s v t helper st (omega (arith, vlt, st.size)) e of.thread)))
+          (left v ∙ ap (filter (λ (r : Reserved). not (r.helper == helper && over_in f.ended (f.finished ++ p ∷ []) f.handed helper)))
+          (st.each_thread v (omega (arith, vlt, st.size))).held ∙ list_other v (thread_at s v).helper helper
+          (over_in f.ended (f.finished ++ p ∷ []) f.handed helper)
+          (λ e. ne (one_thread size f s v t helper st (omega (arith, vlt, st.size)) e of.thread)))
           (st.each_thread v (omega (arith, vlt, st.size))))
           u (omega (arith, below, st.size));
-      general = general_stays f w p st.numbered found refl ∙ st.general ∙ sym (general_idle s.threads t helper (without_running x) lt has (running_left z (is_left z) refl));
+      general = general_stays f w p st.numbered found refl ∙ st.general
+          ∙ sym (general_idle s.threads t helper (without_running x) lt has (running_left z (is_left z) refl));
     }
 
 finished_by_helper : (size : ℕ) (f : Facts) (s : DeskState) (t : ℕ) (task : Task) (outcome : Outcome) (o : Option ℕ) → Stands size f s → t < size

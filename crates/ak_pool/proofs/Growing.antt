@@ -74,53 +74,160 @@ facts f = f
 same_facts : (f g : Facts) → f.handed ≡ g.handed → f.begun ≡ g.begun → f.finished ≡ g.finished → f.drained ≡ g.drained → f.reserved ≡ g.reserved
     → f.ended ≡ g.ended → f.submits ≡ g.submits → f.helpers ≡ g.helpers → f.closed ≡ g.closed → f ≡ g
 same_facts f g a b c d e h i j k =
-    ap (λ x. facts (record { handed = x; begun = f.begun; finished = f.finished; drained = f.drained; reserved = f.reserved; ended = f.ended; submits = f.submits; helpers = f.helpers; closed = f.closed })) a
-    ∙ ap (λ x. facts (record { handed = g.handed; begun = x; finished = f.finished; drained = f.drained; reserved = f.reserved; ended = f.ended; submits = f.submits; helpers = f.helpers; closed = f.closed })) b
-    ∙ ap (λ x. facts (record { handed = g.handed; begun = g.begun; finished = x; drained = f.drained; reserved = f.reserved; ended = f.ended; submits = f.submits; helpers = f.helpers; closed = f.closed })) c
-    ∙ ap (λ x. facts (record { handed = g.handed; begun = g.begun; finished = g.finished; drained = x; reserved = f.reserved; ended = f.ended; submits = f.submits; helpers = f.helpers; closed = f.closed })) d
-    ∙ ap (λ x. facts (record { handed = g.handed; begun = g.begun; finished = g.finished; drained = g.drained; reserved = x; ended = f.ended; submits = f.submits; helpers = f.helpers; closed = f.closed })) e
-    ∙ ap (λ x. facts (record { handed = g.handed; begun = g.begun; finished = g.finished; drained = g.drained; reserved = g.reserved; ended = x; submits = f.submits; helpers = f.helpers; closed = f.closed })) h
-    ∙ ap (λ x. facts (record { handed = g.handed; begun = g.begun; finished = g.finished; drained = g.drained; reserved = g.reserved; ended = g.ended; submits = x; helpers = f.helpers; closed = f.closed })) i
-    ∙ ap (λ x. facts (record { handed = g.handed; begun = g.begun; finished = g.finished; drained = g.drained; reserved = g.reserved; ended = g.ended; submits = g.submits; helpers = x; closed = f.closed })) j
-    ∙ ap (λ x. facts (record { handed = g.handed; begun = g.begun; finished = g.finished; drained = g.drained; reserved = g.reserved; ended = g.ended; submits = g.submits; helpers = g.helpers; closed = x })) k
+    ap (λ x. facts (record {
+      handed = x;
+      begun = f.begun;
+      finished = f.finished;
+      drained = f.drained;
+      reserved = f.reserved;
+      ended = f.ended;
+      submits = f.submits;
+      helpers = f.helpers;
+      closed = f.closed;
+    })) a
+    ∙ ap (λ x. facts (record {
+      handed = g.handed;
+      begun = x;
+      finished = f.finished;
+      drained = f.drained;
+      reserved = f.reserved;
+      ended = f.ended;
+      submits = f.submits;
+      helpers = f.helpers;
+      closed = f.closed;
+    })) b
+    ∙ ap (λ x. facts (record {
+      handed = g.handed;
+      begun = g.begun;
+      finished = x;
+      drained = f.drained;
+      reserved = f.reserved;
+      ended = f.ended;
+      submits = f.submits;
+      helpers = f.helpers;
+      closed = f.closed;
+    })) c
+    ∙ ap (λ x. facts (record {
+      handed = g.handed;
+      begun = g.begun;
+      finished = g.finished;
+      drained = x;
+      reserved = f.reserved;
+      ended = f.ended;
+      submits = f.submits;
+      helpers = f.helpers;
+      closed = f.closed;
+    })) d
+    ∙ ap (λ x. facts (record {
+      handed = g.handed;
+      begun = g.begun;
+      finished = g.finished;
+      drained = g.drained;
+      reserved = x;
+      ended = f.ended;
+      submits = f.submits;
+      helpers = f.helpers;
+      closed = f.closed;
+    })) e
+    ∙ ap (λ x. facts (record {
+      handed = g.handed;
+      begun = g.begun;
+      finished = g.finished;
+      drained = g.drained;
+      reserved = g.reserved;
+      ended = x;
+      submits = f.submits;
+      helpers = f.helpers;
+      closed = f.closed;
+    })) h
+    ∙ ap (λ x. facts (record {
+      handed = g.handed;
+      begun = g.begun;
+      finished = g.finished;
+      drained = g.drained;
+      reserved = g.reserved;
+      ended = g.ended;
+      submits = x;
+      helpers = f.helpers;
+      closed = f.closed;
+    })) i
+    ∙ ap (λ x. facts (record {
+      handed = g.handed;
+      begun = g.begun;
+      finished = g.finished;
+      drained = g.drained;
+      reserved = g.reserved;
+      ended = g.ended;
+      submits = g.submits;
+      helpers = x;
+      closed = f.closed;
+    })) j
+    ∙ ap (λ x. facts (record {
+      handed = g.handed;
+      begun = g.begun;
+      finished = g.finished;
+      drained = g.drained;
+      reserved = g.reserved;
+      ended = g.ended;
+      submits = g.submits;
+      helpers = g.helpers;
+      closed = x;
+    })) k
 
 grown_answer : (xs : List Event) (h : ℕ) (answer : Option ℕ) → facts_of (xs ++ event.HelperNew h answer ∷ []) ≡ with_reserved h answer (facts_of xs)
 grown_answer xs h None =
     let x = event.HelperNew h None in
-    same_facts _ _ (map_kept handed_in xs x refl) (map_kept begun_in xs x refl) (map_kept finished_in xs x refl) (drained_kept xs x refl) (map_kept reserved_in xs x refl) (map_kept ended_in xs x refl) (count_kept is_submit xs x refl) (count_last is_helper_new xs x refl) (closed_kept xs x refl)
+    same_facts _ _ (map_kept handed_in xs x refl) (map_kept begun_in xs x refl) (map_kept finished_in xs x refl) (drained_kept xs x refl)
+    (map_kept reserved_in xs x refl) (map_kept ended_in xs x refl) (count_kept is_submit xs x refl)
+    (count_last is_helper_new xs x refl) (closed_kept xs x refl)
 grown_answer xs h (Some t) =
     let x = event.HelperNew h (Some t) in
-    same_facts _ _ (map_kept handed_in xs x refl) (map_kept begun_in xs x refl) (map_kept finished_in xs x refl) (drained_kept xs x refl) (map_last reserved_in xs x _ refl) (map_kept ended_in xs x refl) (count_kept is_submit xs x refl) (count_last is_helper_new xs x refl) (closed_kept xs x refl)
+    same_facts _ _ (map_kept handed_in xs x refl) (map_kept begun_in xs x refl) (map_kept finished_in xs x refl) (drained_kept xs x refl)
+    (map_last reserved_in xs x _ refl) (map_kept ended_in xs x refl) (count_kept is_submit xs x refl)
+    (count_last is_helper_new xs x refl) (closed_kept xs x refl)
 
 -- an event of no work and no helper
 quiet : (xs : List Event) (x : Event) → handed_in x ≡ None → begun_in x ≡ None → finished_in x ≡ None → drained_in x ≡ [] → reserved_in x ≡ None
     → ended_in x ≡ None
     → is_submit x ≡ false → is_helper_new x ≡ false → is_close x ≡ false → facts_of (xs ++ x ∷ []) ≡ facts_of xs
 quiet xs x a b c d e f g h k =
-    same_facts _ _ (map_kept handed_in xs x a) (map_kept begun_in xs x b) (map_kept finished_in xs x c) (drained_kept xs x d) (map_kept reserved_in xs x e) (map_kept ended_in xs x f)
+    same_facts _ _ (map_kept handed_in xs x a) (map_kept begun_in xs x b) (map_kept finished_in xs x c) (drained_kept xs x d)
+    (map_kept reserved_in xs x e) (map_kept ended_in xs x f)
     (count_kept is_submit xs x g) (count_kept is_helper_new xs x h) (closed_kept xs x k)
 
 -- the facts of one more event
 pub grown : (xs : List Event) (e : Event) → facts_of (xs ++ e ∷ []) ≡ added e (facts_of xs)
 grown xs (event.Submit id work helper) =
     let x = event.Submit id work helper in
-    same_facts _ _ (map_last handed_in xs x _ refl) (map_kept begun_in xs x refl) (map_kept finished_in xs x refl) (drained_kept xs x refl) (map_kept reserved_in xs x refl) (map_kept ended_in xs x refl) (count_last is_submit xs x refl) (count_kept is_helper_new xs x refl) (closed_kept xs x refl)
+    same_facts _ _ (map_last handed_in xs x _ refl) (map_kept begun_in xs x refl) (map_kept finished_in xs x refl)
+    (drained_kept xs x refl) (map_kept reserved_in xs x refl) (map_kept ended_in xs x refl) (count_last is_submit xs x refl)
+    (count_kept is_helper_new xs x refl) (closed_kept xs x refl)
 grown xs (event.Start thread id) =
     let x = event.Start thread id in
-    same_facts _ _ (map_kept handed_in xs x refl) (map_last begun_in xs x _ refl) (map_kept finished_in xs x refl) (drained_kept xs x refl) (map_kept reserved_in xs x refl) (map_kept ended_in xs x refl) (count_kept is_submit xs x refl) (count_kept is_helper_new xs x refl) (closed_kept xs x refl)
+    same_facts _ _ (map_kept handed_in xs x refl) (map_last begun_in xs x _ refl) (map_kept finished_in xs x refl)
+    (drained_kept xs x refl) (map_kept reserved_in xs x refl) (map_kept ended_in xs x refl) (count_kept is_submit xs x refl)
+    (count_kept is_helper_new xs x refl) (closed_kept xs x refl)
 grown xs (event.Finish thread id outcome) =
     let x = event.Finish thread id outcome in
-    same_facts _ _ (map_kept handed_in xs x refl) (map_kept begun_in xs x refl) (map_last finished_in xs x _ refl) (drained_kept xs x refl) (map_kept reserved_in xs x refl) (map_kept ended_in xs x refl) (count_kept is_submit xs x refl) (count_kept is_helper_new xs x refl) (closed_kept xs x refl)
+    same_facts _ _ (map_kept handed_in xs x refl) (map_kept begun_in xs x refl) (map_last finished_in xs x _ refl)
+    (drained_kept xs x refl) (map_kept reserved_in xs x refl) (map_kept ended_in xs x refl) (count_kept is_submit xs x refl)
+    (count_kept is_helper_new xs x refl) (closed_kept xs x refl)
 grown xs (event.Request q asker n) = quiet xs (event.Request q asker n) refl refl refl refl refl refl refl refl refl
 grown xs (event.AskerEnd asker) = quiet xs (event.AskerEnd asker) refl refl refl refl refl refl refl refl refl
 grown xs (event.Answered q v) = quiet xs (event.Answered q v) refl refl refl refl refl refl refl refl refl
 grown xs (event.Drain ids requests) =
     let x = event.Drain ids requests in
-    same_facts _ _ (map_kept handed_in xs x refl) (map_kept begun_in xs x refl) (map_kept finished_in xs x refl) (drained_last xs x) (map_kept reserved_in xs x refl) (map_kept ended_in xs x refl) (count_kept is_submit xs x refl) (count_kept is_helper_new xs x refl) (closed_kept xs x refl)
+    same_facts _ _ (map_kept handed_in xs x refl) (map_kept begun_in xs x refl) (map_kept finished_in xs x refl) (drained_last xs x)
+    (map_kept reserved_in xs x refl) (map_kept ended_in xs x refl) (count_kept is_submit xs x refl)
+    (count_kept is_helper_new xs x refl) (closed_kept xs x refl)
 grown xs (event.HelperNew h answer) = grown_answer xs h answer
 grown xs (event.HelperEnd h) =
     let x = event.HelperEnd h in
-    same_facts _ _ (map_kept handed_in xs x refl) (map_kept begun_in xs x refl) (map_kept finished_in xs x refl) (drained_kept xs x refl) (map_kept reserved_in xs x refl) (map_last ended_in xs x _ refl) (count_kept is_submit xs x refl) (count_kept is_helper_new xs x refl) (closed_kept xs x refl)
+    same_facts _ _ (map_kept handed_in xs x refl) (map_kept begun_in xs x refl) (map_kept finished_in xs x refl) (drained_kept xs x refl)
+    (map_kept reserved_in xs x refl) (map_last ended_in xs x _ refl) (count_kept is_submit xs x refl)
+    (count_kept is_helper_new xs x refl) (closed_kept xs x refl)
 grown xs event.Close =
     let x = event.Close in
-    same_facts _ _ (map_kept handed_in xs x refl) (map_kept begun_in xs x refl) (map_kept finished_in xs x refl) (drained_kept xs x refl) (map_kept reserved_in xs x refl) (map_kept ended_in xs x refl) (count_kept is_submit xs x refl) (count_kept is_helper_new xs x refl) (closed_last xs x refl)
+    same_facts _ _ (map_kept handed_in xs x refl) (map_kept begun_in xs x refl) (map_kept finished_in xs x refl) (drained_kept xs x refl)
+    (map_kept reserved_in xs x refl) (map_kept ended_in xs x refl) (count_kept is_submit xs x refl)
+    (count_kept is_helper_new xs x refl) (closed_last xs x refl)

@@ -26,7 +26,8 @@ use Rattle.ak_pool.proofs.Finishes.{general_idle, none_both}
 
 map_filter_at : (p : ℕ → Bool) (b : Bool) (x : ℕ × Outcome) (xs : List (ℕ × Outcome))
     → map (λ (y : ℕ × Outcome). y.0) (filter (λ y. p y.0) xs) ≡ filter p (map (λ (y : ℕ × Outcome). y.0) xs)
-    → map (λ (y : ℕ × Outcome). y.0) (cond b (x ∷ filter (λ y. p y.0) xs) (filter (λ y. p y.0) xs)) ≡ cond b (x.0 ∷ filter p (map (λ (y : ℕ × Outcome). y.0) xs)) (filter p (map (λ (y : ℕ × Outcome). y.0) xs))
+    → map (λ (y : ℕ × Outcome). y.0) (cond b (x ∷ filter (λ y. p y.0) xs) (filter (λ y. p y.0) xs))
+    ≡ cond b (x.0 ∷ filter p (map (λ (y : ℕ × Outcome). y.0) xs)) (filter p (map (λ (y : ℕ × Outcome). y.0) xs))
 map_filter_at p true x xs e = ap (λ ys. x.0 ∷ ys) e
 map_filter_at p false x xs e = e
 
@@ -41,7 +42,9 @@ drained_at true c e h = refl
 drained_at false c e h = ap (λ d. d || e) h
 
 drained_head : (p : ℕ → Bool) (x : ℕ × Outcome) (xs : List (ℕ × Outcome)) (b : Bool) → p x.0 ≡ b
-    → (b || list_any (λ o. o == x.0) (cond (not b) (x.0 ∷ filter (λ id. not (p id)) (map (λ (z : ℕ × Outcome). z.0) xs)) (filter (λ id. not (p id)) (map (λ (z : ℕ × Outcome). z.0) xs)))) ≡ true
+    → (b || list_any (λ o. o == x.0)
+    (cond (not b) (x.0 ∷ filter (λ id. not (p id)) (map (λ (z : ℕ × Outcome). z.0) xs))
+    (filter (λ id. not (p id)) (map (λ (z : ℕ × Outcome). z.0) xs)))) ≡ true
 drained_head p x xs true e = refl
 drained_head p x xs false e =
     ap (λ c. c || list_any (λ o. o == x.0) (filter (λ id. not (p id)) (map (λ (z : ℕ × Outcome). z.0) xs))) (eq-eqb x.0 x.0 refl)
@@ -54,7 +57,9 @@ or_more false false c h = absurd (cc)
 
 drained_tail : (p : ℕ → Bool) (x : ℕ × Outcome) (xs : List (ℕ × Outcome)) (y : ℕ × Outcome) (b : Bool)
     → (p y.0 || list_any (λ o. o == y.0) (filter (λ id. not (p id)) (map (λ (z : ℕ × Outcome). z.0) xs))) ≡ true
-    → (p y.0 || list_any (λ o. o == y.0) (cond (not b) (x.0 ∷ filter (λ id. not (p id)) (map (λ (z : ℕ × Outcome). z.0) xs)) (filter (λ id. not (p id)) (map (λ (z : ℕ × Outcome). z.0) xs)))) ≡ true
+    → (p y.0 || list_any (λ o. o == y.0)
+    (cond (not b) (x.0 ∷ filter (λ id. not (p id)) (map (λ (z : ℕ × Outcome). z.0) xs))
+    (filter (λ id. not (p id)) (map (λ (z : ℕ × Outcome). z.0) xs)))) ≡ true
 drained_tail p x xs y true k = k
 drained_tail p x xs y false k =
     or_more (p y.0) (list_any (λ o. o == y.0) (filter (λ id. not (p id)) (map (λ (z : ℕ × Outcome). z.0) xs))) (x.0 == y.0) k
@@ -63,8 +68,12 @@ drained_tail p x xs y false k =
 all_drained : (p : ℕ → Bool) (xs : List (ℕ × Outcome))
     → Each (λ x. (p x.0 || list_any (λ o. o == x.0) (filter (λ id. not (p id)) (map (λ (y : ℕ × Outcome). y.0) xs))) ≡ true) xs
 all_drained p [] = tt
-all_drained p (x ∷ xs) =
-    (drained_head p x xs (p x.0) refl, each_map (λ y. (p y.0 || list_any (λ o. o == y.0) (filter (λ id. not (p id)) (map (λ (z : ℕ × Outcome). z.0) xs))) ≡ true) (λ y. (p y.0 || list_any (λ o. o == y.0) (filter (λ id. not (p id)) (map (λ (z : ℕ × Outcome). z.0) (x ∷ xs)))) ≡ true) (λ y k. drained_tail p x xs y (p x.0) k) xs (all_drained p xs))
+all_drained p (x ∷ xs) = (
+  drained_head p x xs (p x.0) refl,
+  each_map (λ y. (p y.0 || list_any (λ o. o == y.0) (filter (λ id. not (p id)) (map (λ (z : ℕ × Outcome). z.0) xs))) ≡ true)
+      (λ y. (p y.0 || list_any (λ o. o == y.0) (filter (λ id. not (p id)) (map (λ (z : ℕ × Outcome). z.0) (x ∷ xs)))) ≡ true)
+      (λ y k. drained_tail p x xs y (p x.0) k) xs (all_drained p xs),
+)
 
 each_id : (P : ℕ → Type 0) (xs : List (ℕ × Outcome)) → Each (λ x. P x.0) xs → Each P (map (λ (x : ℕ × Outcome). x.0) xs)
 each_id P [] h = tt
@@ -78,9 +87,12 @@ stands_fetched size f s ids requests st e =
     let owed = filter (λ id. not (is_among f.drained id)) (map (λ (x : ℕ × Outcome). x.0) f.finished) in
     let gone : filter (λ (x : ℕ × Outcome). not (is_among (f.drained ++ owed) x.0)) f.finished ≡ [] =
     filter_none (λ (x : ℕ × Outcome). not (is_among (f.drained ++ owed) x.0)) f.finished
-    (each_map (λ x. (is_among f.drained x.0 || list_any (λ o. o == x.0) owed) ≡ true) (λ x. not (is_among (f.drained ++ owed) x.0) ≡ false) (λ x k. ap not (list_any-append (λ o. o == x.0) f.drained owed ∙ k)) f.finished (all_drained (is_among f.drained) f.finished)) in
+    (each_map (λ x. (is_among f.drained x.0 || list_any (λ o. o == x.0) owed) ≡ true)
+    (λ x. not (is_among (f.drained ++ owed) x.0) ≡ false) (λ x k. ap not (list_any-append (λ o. o == x.0) f.drained owed ∙ k))
+    f.finished (all_drained (is_among f.drained) f.finished)) in
     let first : Each (λ id. has_finished f.finished id ≡ true) owed =
-    each_filter (λ id. has_finished f.finished id ≡ true) (λ id. not (is_among f.drained id)) (map (λ (x : ℕ × Outcome). x.0) f.finished) (each_id (λ id. has_finished f.finished id ≡ true) f.finished (each_any (λ (x : ℕ × Outcome). x.0) f.finished)) in
+    each_filter (λ id. has_finished f.finished id ≡ true) (λ id. not (is_among f.drained id)) (map (λ (x : ℕ × Outcome). x.0) f.finished)
+    (each_id (λ id. has_finished f.finished id ≡ true) f.finished (each_any (λ (x : ℕ × Outcome). x.0) f.finished)) in
     record {
       size = st.size;
       submits = st.submits;
@@ -92,7 +104,8 @@ stands_fetched size f s ids requests st e =
       begun_once = st.begun_once;
       begun_exists = st.begun_exists;
       begun_first = st.begun_first;
-      finished_first = each_append (λ id. has_finished f.finished id ≡ true) f.drained ids st.finished_first (subst (λ is. Each (λ id. has_finished f.finished id ≡ true) is) (sym e) first);
+      finished_first = each_append (λ id. has_finished f.finished id ≡ true) f.drained ids st.finished_first
+          (subst (λ is. Each (λ id. has_finished f.finished id ≡ true) is) (sym e) first);
       granted_once = st.granted_once;
       ended_known = st.ended_known;
       waiting = st.waiting;
@@ -131,7 +144,8 @@ known_more helpers (Some x) h = omega (arith, h)
 granted_more : (size helpers : ℕ) (reserved : List Reserved) → Each (IsGrantedOnce size helpers reserved) reserved
     → Each (IsGrantedOnce size (helpers + 1) reserved) reserved
 granted_more size helpers reserved h =
-    each_map (IsGrantedOnce size helpers reserved) (IsGrantedOnce size (helpers + 1) reserved) (λ r k. record { known = omega (arith, k.known); exists = k.exists; once = k.once }) reserved h
+    each_map (IsGrantedOnce size helpers reserved) (IsGrantedOnce size (helpers + 1) reserved)
+    (λ r k. record { known = omega (arith, k.known); exists = k.exists; once = k.once }) reserved h
 
 -- a helper is refused
 pub stands_refused : (size : ℕ) (f : Facts) (s : DeskState) (h : ℕ) → Stands size f s → Stands size (added (event.HelperNew h None) f) (answered None s)
@@ -143,7 +157,8 @@ stands_refused size f s h st =
       closed = st.closed;
       handed_all = st.handed_all;
       numbered = st.numbered;
-      for_known = each_map (λ (w : Handed). IsKnown f.helpers w.helper) (λ w. IsKnown (f.helpers + 1) w.helper) (λ w k. known_more f.helpers w.helper k) f.handed st.for_known;
+      for_known = each_map (λ (w : Handed). IsKnown f.helpers w.helper) (λ w. IsKnown (f.helpers + 1) w.helper)
+          (λ w k. known_more f.helpers w.helper k) f.handed st.for_known;
       begun_once = st.begun_once;
       begun_exists = st.begun_exists;
       begun_first = st.begun_first;
@@ -181,16 +196,21 @@ none_for handed helpers h =
 
 none_waits : (handed : List Handed) (begun : List Begun) (helpers : ℕ) → Each (λ w. IsKnown helpers w.helper) handed → unbegun handed begun (Some helpers) ≡ []
 none_waits handed begun helpers h =
-    ap (map _) (filter_none (waits begun (Some helpers)) handed (each_map (λ w. is_for helpers w ≡ false) (λ w. waits begun (Some helpers) w ≡ false) (λ w k. ap (λ b. b && not (has_begun begun w.id)) k) handed (none_for handed helpers h)))
+    ap (map _) (filter_none (waits begun (Some helpers)) handed
+    (each_map (λ w. is_for helpers w ≡ false) (λ w. waits begun (Some helpers) w ≡ false)
+    (λ w k. ap (λ b. b && not (has_begun begun w.id)) k) handed (none_for handed helpers h)))
 
 fresh_ended : (ended : List ℕ) (helpers : ℕ) → Each (λ h. h < helpers) ended → is_among ended helpers ≡ false
 fresh_ended ended helpers h =
-    none_any (λ x. x == helpers) ended (each_map (λ x. x < helpers) (λ x. (x == helpers) ≡ false) (λ x k. ne_eqb x helpers (λ e. absurd (omega (arith, e, k)))) ended h)
+    none_any (λ x. x == helpers) ended
+    (each_map (λ x. x < helpers) (λ x. (x == helpers) ≡ false) (λ x k. ne_eqb x helpers (λ e. absurd (omega (arith, e, k)))) ended h)
 
 fresh_granted : (size helpers : ℕ) (reserved : List Reserved) → Each (IsGrantedOnce size helpers reserved) reserved
     → list_any (λ (r : Reserved). r.helper == helpers) reserved ≡ false
 fresh_granted size helpers reserved h =
-    none_any (λ (r : Reserved). r.helper == helpers) reserved (each_map (IsGrantedOnce size helpers reserved) (λ r. (r.helper == helpers) ≡ false) (λ r k. ne_eqb r.helper helpers (λ e. absurd (omega (arith, e, k.known)))) reserved h)
+    none_any (λ (r : Reserved). r.helper == helpers) reserved
+    (each_map (IsGrantedOnce size helpers reserved) (λ r. (r.helper == helpers) ≡ false)
+    (λ r k. ne_eqb r.helper helpers (λ e. absurd (omega (arith, e, k.known)))) reserved h)
 
 idle_parts : (x : ThreadState) → x.running ≡ None → x.helper ≡ None → runs_general x ≡ false
 idle_parts x e k = ap (λ o. is_some o && is_none x.helper) e
@@ -207,15 +227,20 @@ stands_granted size f s t st exists idle free =
     let row = st.each_thread t exists in
     let known = subst (λ n. Each (λ (w : Handed). IsKnown n w.helper) f.handed) (sym st.helpers) st.for_known in
     let not_ended : is_among f.ended h ≡ false = fresh_ended f.ended h (subst (λ n. Each (λ k. k < n) f.ended) (sym st.helpers) st.ended_known) in
-    let not_over : over_in f.ended f.finished f.handed h ≡ false = ap (λ b. b && list_all (λ w. has_finished f.finished w.id) (filter (is_for h) f.handed)) not_ended in
+    let not_over : over_in f.ended f.finished f.handed h ≡ false =
+    ap (λ b. b && list_all (λ w. has_finished f.finished w.id) (filter (is_for h) f.handed)) not_ended in
     let queue = subst (λ o. IsQueueFor f.handed f.begun f.ended o x) free row.queue in
     let granted = subst (λ n. Each (IsGrantedOnce size n f.reserved) f.reserved) (sym st.helpers) st.granted_once in
-    let fresh : find (λ (q : Reserved). q.helper == h) f.reserved ≡ None = none_found (λ (q : Reserved). q.helper == h) f.reserved (fresh_granted size h f.reserved granted) in
-    let once : thread_in (f.reserved ++ r ∷ []) h ≡ Some t = ap (option_map (λ (q : Reserved). q.thread)) (find_last (λ (q : Reserved). q.helper == h) f.reserved r fresh (eq-eqb h h refl)) in
+    let fresh : find (λ (q : Reserved). q.helper == h) f.reserved ≡ None =
+    none_found (λ (q : Reserved). q.helper == h) f.reserved (fresh_granted size h f.reserved granted) in
+    let once : thread_in (f.reserved ++ r ∷ []) h ≡ Some t =
+    ap (option_map (λ (q : Reserved). q.thread)) (find_last (λ (q : Reserved). q.helper == h) f.reserved r fresh (eq-eqb h h refl)) in
     let here : ThreadStands f.handed f.begun f.finished (f.reserved ++ r ∷ []) f.ended t y = record {
       running = row.running;
       task = subst (λ o. IsTaskFor f.handed (Some h) o) (sym idle) tt;
-      held = filter_last (λ (q : Reserved). q.thread == t && not (over_in f.ended f.finished f.handed q.helper)) f.reserved r (ap (λ b. (t == t) && not b) not_over ∙ ap (λ b. b && true) (eq-eqb t t refl)) ∙ ap (λ q. q ++ r ∷ []) (row.held ∙ ap (reserved_list t) free);
+      held = filter_last (λ (q : Reserved). q.thread == t && not (over_in f.ended f.finished f.handed q.helper)) f.reserved r
+          (ap (λ b. (t == t) && not b) not_over ∙ ap (λ b. b && true) (eq-eqb t t refl))
+          ∙ ap (λ q. q ++ r ∷ []) (row.held ∙ ap (reserved_list t) free);
       queue = (queue.0 ∙ sym (none_waits f.handed f.begun h known), queue.1 ∙ sym not_ended);
     } in
     record {
@@ -225,13 +250,22 @@ stands_granted size f s t st exists idle free =
       closed = st.closed;
       handed_all = st.handed_all;
       numbered = st.numbered;
-      for_known = each_map (λ (w : Handed). IsKnown f.helpers w.helper) (λ w. IsKnown (f.helpers + 1) w.helper) (λ w k. known_more f.helpers w.helper k) f.handed st.for_known;
-      begun_once = each_map (IsBegunOnce f.handed f.reserved f.begun) (IsBegunOnce f.handed (f.reserved ++ r ∷ []) f.begun) (λ b k. record { work = k.work; is = k.is; on = on_more f.reserved r b.thread k.work.helper k.on; once = k.once }) f.begun st.begun_once;
+      for_known = each_map (λ (w : Handed). IsKnown f.helpers w.helper) (λ w. IsKnown (f.helpers + 1) w.helper)
+          (λ w k. known_more f.helpers w.helper k) f.handed st.for_known;
+      begun_once = each_map (IsBegunOnce f.handed f.reserved f.begun) (IsBegunOnce f.handed (f.reserved ++ r ∷ []) f.begun)
+          (λ b k. record { work = k.work; is = k.is; on = on_more f.reserved r b.thread k.work.helper k.on; once = k.once }) f.begun
+          st.begun_once;
       begun_exists = st.begun_exists;
       begun_first = st.begun_first;
       finished_first = st.finished_first;
       granted_once = each_last (IsGrantedOnce size (f.helpers + 1) (f.reserved ++ r ∷ [])) f.reserved r
-          (each_map (IsGrantedOnce size f.helpers f.reserved) (IsGrantedOnce size (f.helpers + 1) (f.reserved ++ r ∷ [])) (λ q k. record { known = omega (arith, k.known); exists = k.exists; once = thread_more f.reserved r q.helper q.thread k.once }) f.reserved st.granted_once)
+          (each_map (IsGrantedOnce size f.helpers f.reserved) (IsGrantedOnce size (f.helpers + 1) (f.reserved ++ r ∷ []))
+          (λ q k. record {
+            known = omega (arith, k.known);
+            exists = k.exists;
+            once =
+                thread_more f.reserved r q.helper q.thread k.once;
+          }) f.reserved st.granted_once)
           (record { known = omega (arith, st.helpers); exists = exists; once = once });
       ended_known = each_map (λ k. k < f.helpers) (λ k. k < f.helpers + 1) (λ k less. omega (arith, less)) f.ended st.ended_known;
       waiting = st.waiting;
@@ -240,7 +274,8 @@ stands_granted size f s t st exists idle free =
           (λ v vlt ne. let old = st.each_thread v (omega (arith, vlt, st.size)) in record {
             running = old.running;
             task = old.task;
-            held = filter_kept (λ (q : Reserved). q.thread == v && not (over_in f.ended f.finished f.handed q.helper)) f.reserved r (ap (λ b. b && not (over_in f.ended f.finished f.handed h)) (ne_eqb t v (λ e. ne (sym e)))) ∙ old.held;
+            held = filter_kept (λ (q : Reserved). q.thread == v && not (over_in f.ended f.finished f.handed q.helper)) f.reserved r
+                (ap (λ b. b && not (over_in f.ended f.finished f.handed h)) (ne_eqb t v (λ e. ne (sym e)))) ∙ old.held;
             queue = old.queue;
           })
           u (omega (arith, below, st.size));
@@ -287,13 +322,16 @@ stands_ended size f s helper t st on =
     let held = row.held ∙ ap (reserved_list t) on.helper_is in
     let task : IsTaskFor f.handed (Some helper) z.running = subst (λ o. IsTaskFor f.handed o x.running) on.helper_is row.task in
     let queue : IsQueueFor f.handed f.begun ended (Some helper) z = (on.queue, sym (ended_now f.ended helper)) in
-    let same : (h : ℕ) → (h ≡ helper → ⊥) → over_in ended f.finished f.handed h ≡ over_in f.ended f.finished f.handed h = λ h ne. ap (λ b. b && list_all (λ w. has_finished f.finished w.id) (filter (is_for h) f.handed)) (ended_apart f.ended helper h (λ e. ne (sym e))) in
+    let same : (h : ℕ) → (h ≡ helper → ⊥) → over_in ended f.finished f.handed h ≡ over_in f.ended f.finished f.handed h =
+    λ h ne. ap (λ b. b && list_all (λ w. has_finished f.finished w.id) (filter (is_for h) f.handed))
+    (ended_apart f.ended helper h (λ e. ne (sym e))) in
     let left = held_left f.reserved f.ended ended f.finished f.finished f.handed helper on.of.goes_on same in
     let over : over_in ended f.finished f.handed helper ≡ is_left z =
     over_by_thread f.handed f.begun f.finished f.reserved ended t helper z st.numbered st.begun_once st.begun_first row.running task queue on.of.thread in
     let here : ThreadStands f.handed f.begun f.finished f.reserved ended t y =
     stands_vacated f.handed f.begun f.finished f.reserved ended t helper z on.helper_is row.running task
-    (left t ∙ ap (filter (λ (r : Reserved). not (r.helper == helper && over_in ended f.finished f.handed helper))) held ∙ list_left t helper (over_in ended f.finished f.handed helper) ∙ ap (λ b. cond b [] (reserved_list t (Some helper))) over)
+    (left t ∙ ap (filter (λ (r : Reserved). not (r.helper == helper && over_in ended f.finished f.handed helper))) held
+    ∙ list_left t helper (over_in ended f.finished f.handed helper) ∙ ap (λ b. cond b [] (reserved_list t (Some helper))) over)
     queue in
     record {
       size = length-set s.threads t y ∙ st.size;
@@ -317,7 +355,8 @@ stands_ended size f s helper t st on =
           record {
             running = old.running;
             task = old.task;
-            held = left v ∙ ap (filter (λ (r : Reserved). not (r.helper == helper && over_in ended f.finished f.handed helper))) old.held ∙ list_other v (thread_at s v).helper helper (over_in ended f.finished f.handed helper) other;
+            held = left v ∙ ap (filter (λ (r : Reserved). not (r.helper == helper && over_in ended f.finished f.handed helper))) old.held
+                ∙ list_other v (thread_at s v).helper helper (over_in ended f.finished f.handed helper) other;
             queue = queue_apart f.handed f.begun f.ended helper (thread_at s v).helper (thread_at s v) other old.queue;
           })
           u (omega (arith, below, st.size));

@@ -237,5 +237,8 @@ any_more p xs ys e = list_any-append p xs ys ∙ ap (λ b. b || list_any p ys) e
 
 pub each_any : {A : Type 0} (key : A → ℕ) (xs : List A) → Each (λ x. list_any (λ y. key y == key x) xs ≡ true) xs
 each_any key [] = tt
-each_any key (x ∷ xs) =
-    (ap (λ b. b || list_any (λ y. key y == key x) xs) (eq-eqb (key x) (key x) refl), each_map (λ z. list_any (λ y. key y == key z) xs ≡ true) (λ z. list_any (λ y. key y == key z) (x ∷ xs) ≡ true) (λ z e. or_right (key x == key z) (list_any (λ y. key y == key z) xs) e) xs (each_any key xs))
+each_any key (x ∷ xs) = (
+  ap (λ b. b || list_any (λ y. key y == key x) xs) (eq-eqb (key x) (key x) refl),
+  each_map (λ z. list_any (λ y. key y == key z) xs ≡ true) (λ z. list_any (λ y. key y == key z) (x ∷ xs) ≡ true)
+      (λ z e. or_right (key x == key z) (list_any (λ y. key y == key z) xs) e) xs (each_any key xs),
+)

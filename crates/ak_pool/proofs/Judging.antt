@@ -21,7 +21,9 @@ use Rattle.ak_pool.proofs.Works.{one_if}
 -- what is at a place that passes
 pub position_some : {A : Type 0} (p : A → Bool) (xs : List A) (i : ℕ) (d : A) → i < length xs → p (get_or xs i d) ≡ true → is_some (position p xs) ≡ true
 position_some p xs i d lt e =
-    ap (λ b. is_some (cond b (Some (position_or_len p xs)) None)) (lt-ltb (position_or_len p xs) (length xs) (elim (cases_lt i (position_or_len p xs)) [ inl k ↦ absurd (cc (e, fails_before_first p xs i d k)) | inr k ↦ omega arith ]))
+    ap (λ b. is_some (cond b (Some (position_or_len p xs)) None))
+    (lt-ltb (position_or_len p xs) (length xs)
+    (elim (cases_lt i (position_or_len p xs)) [ inl k ↦ absurd (cc (e, fails_before_first p xs i d k)) | inr k ↦ omega arith ]))
 
 position_none_at : (b : Bool) (i : ℕ) → cond b (Some i) None ≡ None → b ≡ false
 position_none_at true i e = absurd (cc)
@@ -111,24 +113,33 @@ not_some (Some x) b = refl
 -- how many general works wait
 waiting_is : (size : ℕ) (f : Facts) (s : DeskState) → Stands size f s → count_by (λ w. is_general w && not (has_begun f.begun w.id)) f.handed ≡ length s.waiting
 waiting_is size f s st =
-    sym (length-filter (λ w. is_general w && not (has_begun f.begun w.id)) f.handed) ∙ sym (length-map (filter (λ w. is_general w && not (has_begun f.begun w.id)) f.handed) task_of) ∙ ap length (sym st.waiting)
+    sym (length-filter (λ w. is_general w && not (has_begun f.begun w.id)) f.handed)
+    ∙ sym (length-map (filter (λ w. is_general w && not (has_begun f.begun w.id)) f.handed) task_of) ∙ ap length (sym st.waiting)
 
 -- how many threads a further helper may choose from
 pub free_is : (size : ℕ) (f : Facts) (s : DeskState) → Stands size f s
-    → (size - count_by (held_by f) (numbers_below size) - general_in f.handed f.begun f.finished - count_by (λ w. is_general w && not (has_begun f.begun w.id)) f.handed) ≡ free_of s
+    → (size - count_by (held_by f) (numbers_below size) - general_in f.handed f.begun f.finished
+    - count_by (λ w. is_general w && not (has_begun f.begun w.id)) f.handed) ≡ free_of s
 free_is size f s st =
-    let taken : count_by (held_by f) (numbers_below (length s.threads)) ≡ count_by is_taken s.threads = count_all (held_by f) is_taken s.threads idle_thread (λ t k. held_is size f s t st (omega (arith, k, st.size))) in
-    ap (λ n. n - count_by (held_by f) (numbers_below n) - general_in f.handed f.begun f.finished - count_by (λ w. is_general w && not (has_begun f.begun w.id)) f.handed) (sym st.size)
+    let taken : count_by (held_by f) (numbers_below (length s.threads)) ≡ count_by is_taken s.threads =
+    count_all (held_by f) is_taken s.threads idle_thread (λ t k. held_is size f s t st (omega (arith, k, st.size))) in
+    ap (λ n. n - count_by (held_by f) (numbers_below n) - general_in f.handed f.begun f.finished
+    - count_by (λ w. is_general w && not (has_begun f.begun w.id)) f.handed) (sym st.size)
     ∙ ap (λ n. length s.threads - n - general_in f.handed f.begun f.finished - count_by (λ w. is_general w && not (has_begun f.begun w.id)) f.handed) taken
     ∙ ap (λ n. length s.threads - count_by is_taken s.threads - n - count_by (λ w. is_general w && not (has_begun f.begun w.id)) f.handed) st.general
     ∙ ap (λ n. length s.threads - count_by is_taken s.threads - count_by runs_general s.threads - n) (waiting_is size f s st)
 
 -- the answer to a further helper
 pub answer_is : (size : ℕ) (f : Facts) (s : DeskState) → Stands size f s
-    → cond ((size - count_by (held_by f) (numbers_below size) - general_in f.handed f.begun f.finished - count_by (λ w. is_general w && not (has_begun f.begun w.id)) f.handed) == 0) None (find (λ t. not (runs_on f t) && not (held_by f t)) (numbers_below size)) ≡ answer_of s
+    → cond ((size - count_by (held_by f) (numbers_below size) - general_in f.handed f.begun f.finished
+    - count_by (λ w. is_general w && not (has_begun f.begun w.id)) f.handed) == 0) None
+    (find (λ t. not (runs_on f t) && not (held_by f t)) (numbers_below size)) ≡ answer_of s
 answer_is size f s st =
     let idle : find (λ t. not (runs_on f t) && not (held_by f t)) (numbers_below (length s.threads)) ≡ position is_idle s.threads =
-    find_place (λ t. not (runs_on f t) && not (held_by f t)) is_idle s.threads idle_thread (λ t k. ap (λ b. not b && not (held_by f t)) (runs_is size f s t st (omega (arith, k, st.size))) ∙ ap (λ b. not (is_some (thread_at s t).running) && not b) (held_is size f s t st (omega (arith, k, st.size))) ∙ not_some (thread_at s t).running (thread_at s t).helper) in
+    find_place (λ t. not (runs_on f t) && not (held_by f t)) is_idle s.threads idle_thread
+    (λ t k. ap (λ b. not b && not (held_by f t)) (runs_is size f s t st (omega (arith, k, st.size)))
+    ∙ ap (λ b. not (is_some (thread_at s t).running) && not b) (held_is size f s t st (omega (arith, k, st.size)))
+    ∙ not_some (thread_at s t).running (thread_at s t).helper) in
     ap (λ n. cond (n == 0) None (find (λ t. not (runs_on f t) && not (held_by f t)) (numbers_below size))) (free_is size f s st)
     ∙ ap (λ n. cond (free_of s == 0) None (find (λ t. not (runs_on f t) && not (held_by f t)) (numbers_below n))) (sym st.size)
     ∙ ap (λ o. cond (free_of s == 0) None o) idle
@@ -143,7 +154,14 @@ one_of_three (Some x) (Some h) = omega arith
 all_threads : (xs : List ThreadState) → length xs ≤ count_by is_idle xs + count_by is_taken xs + count_by runs_general xs
 all_threads [] = omega arith
 all_threads (x ∷ xs) =
-    omega (arith, all_threads xs, one_of_three x.running x.helper, sum_by-cons (λ y. one_if (is_idle y)) x xs, sum_by-cons (λ y. one_if (is_taken y)) x xs, sum_by-cons (λ y. one_if (runs_general y)) x xs)
+    omega (
+      arith,
+      all_threads xs,
+      one_of_three x.running x.helper,
+      sum_by-cons (λ y. one_if (is_idle y)) x xs,
+      sum_by-cons (λ y. one_if (is_taken y)) x xs,
+      sum_by-cons (λ y. one_if (runs_general y)) x xs,
+    )
 
 count_none : {A : Type 0} (p : A → Bool) (xs : List A) (d : A) → ((t : ℕ) → t < length xs → p (get_or xs t d) ≡ false) → count_by p xs ≡ 0
 count_none p [] d h = refl
@@ -155,8 +173,11 @@ refused_some n t e =
     elim (cases_eq n 0) [ inl k ↦ k | inr ne ↦ absurd (cc (e, ap (λ b. cond b None (Some t)) (ne_eqb n 0 ne))) ]
 
 refused_at : (s : DeskState) (o : Option ℕ) → position is_idle s.threads ≡ o → (cond (free_of s == 0) None o ≡ None) ↔ (free_of s ≡ 0)
-refused_at s None e =
-    (λ k. let none = count_none is_idle s.threads idle_thread (λ t lt. position_none is_idle s.threads t idle_thread e lt) in omega (arith, none, all_threads s.threads), λ k. ap (λ b. cond b None None) (eq-eqb (free_of s) 0 k))
+refused_at s None e = (
+  λ k. let none = count_none is_idle s.threads idle_thread (λ t lt. position_none is_idle s.threads t idle_thread e lt) in
+      omega (arith, none, all_threads s.threads),
+  λ k. ap (λ b. cond b None None) (eq-eqb (free_of s) 0 k),
+)
 refused_at s (Some t) e =
     (λ k. refused_some (free_of s) t k, λ k. ap (λ b. cond b None (Some t)) (eq-eqb (free_of s) 0 k))
 

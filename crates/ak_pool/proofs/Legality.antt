@@ -41,13 +41,23 @@ holds_at : (f : Facts) (t helper : ℕ) (r : Reserved) (o : Option ℕ) → held
     → find (λ (x : Reserved). x.helper == helper) f.reserved ≡ Some r → r.thread ≡ t → over_in f.ended f.finished f.handed helper ≡ false
     → o ≡ Some helper
 holds_at f t helper r None held found on goes_on =
-    let none = each_find (λ (x : Reserved). (x.thread == t && not (over_in f.ended f.finished f.handed x.helper)) ≡ false) (λ (x : Reserved). x.helper == helper) f.reserved r (filter_nil (λ (x : Reserved). x.thread == t && not (over_in f.ended f.finished f.handed x.helper)) f.reserved held) found in
+    let none = each_find (λ (x : Reserved). (x.thread == t && not (over_in f.ended f.finished f.handed x.helper)) ≡ false)
+    (λ (x : Reserved). x.helper == helper) f.reserved r
+    (filter_nil (λ (x : Reserved). x.thread == t && not (over_in f.ended f.finished f.handed x.helper)) f.reserved held) found in
     let id : r.helper ≡ helper = eqb-true r.helper helper (find_passes (λ (x : Reserved). x.helper == helper) f.reserved r found) in
-    absurd (cc (none, and_now (r.thread == t) (over_in f.ended f.finished f.handed r.helper) (eq-eqb r.thread t on) (ap (over_in f.ended f.finished f.handed) id ∙ goes_on)))
+    absurd (cc (
+      none,
+      and_now (r.thread == t) (over_in f.ended f.finished f.handed r.helper) (eq-eqb r.thread t on)
+          (ap (over_in f.ended f.finished f.handed) id ∙ goes_on),
+    ))
 holds_at f t helper r (Some h) held found on goes_on =
-    let one = each_find (λ (x : Reserved). (x.thread == t && not (over_in f.ended f.finished f.handed x.helper)) ≡ true → x ≡ record { helper = h; thread = t }) (λ (x : Reserved). x.helper == helper) f.reserved r (one_passes (λ (x : Reserved). x.thread == t && not (over_in f.ended f.finished f.handed x.helper)) f.reserved (record { helper = h; thread = t }) held) found in
+    let one = each_find (λ (x : Reserved). (x.thread == t && not (over_in f.ended f.finished f.handed x.helper)) ≡ true
+    → x ≡ record { helper = h; thread = t }) (λ (x : Reserved). x.helper == helper) f.reserved r
+    (one_passes (λ (x : Reserved). x.thread == t && not (over_in f.ended f.finished f.handed x.helper)) f.reserved
+    (record { helper = h; thread = t }) held) found in
     let id : r.helper ≡ helper = eqb-true r.helper helper (find_passes (λ (x : Reserved). x.helper == helper) f.reserved r found) in
-    let same = one (and_now (r.thread == t) (over_in f.ended f.finished f.handed r.helper) (eq-eqb r.thread t on) (ap (over_in f.ended f.finished f.handed) id ∙ goes_on)) in
+    let same = one (and_now (r.thread == t) (over_in f.ended f.finished f.handed r.helper) (eq-eqb r.thread t on)
+    (ap (over_in f.ended f.finished f.handed) id ∙ goes_on)) in
     ap Some (sym (ap (λ (x : Reserved). x.helper) same) ∙ id)
 
 thread_found : (reserved : List Reserved) (helper t : ℕ) (o : Option Reserved) → find (λ (x : Reserved). x.helper == helper) reserved ≡ o
@@ -73,7 +83,8 @@ active_served size f s helper st e =
     let parts = and_both (list_any (λ (r : Reserved). r.helper == helper) f.reserved) (is_among f.ended helper) e in
     let k = some_found (λ (r : Reserved). r.helper == helper) f.reserved parts.0 in
     let on : thread_in f.reserved helper ≡ Some k.0.thread = ap (option_map (λ (x : Reserved). x.thread)) k.1 in
-    let there = holds size f s k.0.thread helper st on (ap (λ b. b && list_all (λ w. has_finished f.finished w.id) (filter (is_for helper) f.handed)) parts.1) in
+    let there = holds size f s k.0.thread helper st on
+    (ap (λ b. b && list_all (λ w. has_finished f.finished w.id) (filter (is_for helper) f.handed)) parts.1) in
     let x = thread_at s k.0.thread in
     let queue = subst (λ o. IsQueueFor f.handed f.begun f.ended o x) there.1 (st.each_thread k.0.thread there.0).queue in
     position_some (serves helper) s.threads k.0.thread idle_thread (omega (arith, there.0, st.size))
@@ -114,10 +125,24 @@ front_cases handed begun o id w (x ∷ xs) num q found of no_start before =
     let v_id : v.id ≡ x.id = ap (λ (t : Task). t.id) front.same in
     let w_id : w.id ≡ id = found_id id w handed found in
     let grow = subst (Grow 0) front.kept (grow_filter (waits begun o) 0 handed (numbered_grow 0 handed num)) in
-    let below : Each (λ y. v.id ≤ y.id) (filter (waits begun o) handed) = subst (λ ys. Each (λ y. v.id ≤ y.id) ys) (sym front.kept) (omega arith, each_map (λ y. v.id + 1 ≤ y.id) (λ y. v.id ≤ y.id) (λ y k. omega (arith, k)) front.works (grow_each (v.id + 1) front.works grow.1)) in
-    let le : v.id ≤ w.id = each_find (λ y. waits begun o y ≡ true → v.id ≤ y.id) (λ (y : Handed). y.id == id) handed w (unfilter (λ y. v.id ≤ y.id) (waits begun o) handed below) found (and_now (is_of o w) (has_begun begun w.id) of (ap (has_begun begun) w_id ∙ no_start)) in
+    let below : Each (λ y. v.id ≤ y.id) (filter (waits begun o) handed) =
+    subst (λ ys. Each (λ y. v.id ≤ y.id) ys) (sym front.kept) (
+      omega arith,
+      each_map (λ y. v.id + 1 ≤ y.id) (λ y. v.id ≤ y.id) (λ y k. omega (arith, k)) front.works
+          (grow_each (v.id + 1) front.works grow.1),
+    ) in
+    let le : v.id ≤ w.id =
+    each_find (λ y. waits begun o y ≡ true → v.id ≤ y.id) (λ (y : Handed). y.id == id) handed w
+    (unfilter (λ y. v.id ≤ y.id) (waits begun o) handed below) found
+    (and_now (is_of o w) (has_begun begun w.id) of (ap (has_begun begun) w_id ∙ no_start)) in
     let ge : id ≤ v.id = elim (cases_lt v.id id) [
-      | inl less ↦ absurd (cc (each_find (λ y. (is_of o y && nat_lt y.id id) ≡ true → has_begun begun y.id ≡ true) (λ (y : Handed). y.id == x.id) handed v before front.found (and_yes (is_of o v) (nat_lt v.id id) front.of (lt-ltb v.id id less)), ap (has_begun begun) v_id, front.unbegun))
+      | inl less ↦ absurd (cc (
+        each_find (λ y. (is_of o y && nat_lt y.id id) ≡ true → has_begun begun y.id ≡ true)
+            (λ (y : Handed). y.id == x.id) handed v before front.found
+            (and_yes (is_of o v) (nat_lt v.id id) front.of (lt-ltb v.id id less)),
+        ap (has_begun begun) v_id,
+        front.unbegun,
+      ))
       | inr k ↦ k
     ] in
     ap Some (omega (arith, le, ge, v_id, w_id))
@@ -129,10 +154,21 @@ begun_before handed begun o task rest num front =
     let w = front.work in
     let w_id : w.id ≡ task.id = ap (λ (t : Task). t.id) front.same in
     let grow = subst (Grow 0) front.kept (grow_filter (waits begun o) 0 handed (numbered_grow 0 handed num)) in
-    let below : Each (λ y. w.id ≤ y.id) (filter (waits begun o) handed) = subst (λ ys. Each (λ y. w.id ≤ y.id) ys) (sym front.kept) (omega arith, each_map (λ y. w.id + 1 ≤ y.id) (λ y. w.id ≤ y.id) (λ y k. omega (arith, k)) front.works (grow_each (w.id + 1) front.works grow.1)) in
+    let below : Each (λ y. w.id ≤ y.id) (filter (waits begun o) handed) =
+    subst (λ ys. Each (λ y. w.id ≤ y.id) ys) (sym front.kept) (
+      omega arith,
+      each_map (λ y. w.id + 1 ≤ y.id) (λ y. w.id ≤ y.id) (λ y k. omega (arith, k)) front.works
+          (grow_each (w.id + 1) front.works grow.1),
+    ) in
     each_map (λ y. waits begun o y ≡ true → w.id ≤ y.id) (λ y. (is_of o y && nat_lt y.id task.id) ≡ true → has_begun begun y.id ≡ true) (λ y k e.
     let parts = and_parts (is_of o y) (nat_lt y.id task.id) e in
-    true_from_ne_false (has_begun begun y.id) (λ no_start. absurd (omega (arith, k (and_now (is_of o y) (has_begun begun y.id) parts.0 no_start), w_id, ltb-true y.id task.id parts.1)))) handed (unfilter (λ y. w.id ≤ y.id) (waits begun o) handed below)
+    true_from_ne_false (has_begun begun y.id)
+    (λ no_start. absurd (omega (
+      arith,
+      k (and_now (is_of o y) (has_begun begun y.id) parts.0 no_start),
+      w_id,
+      ltb-true y.id task.id parts.1,
+    )))) handed (unfilter (λ y. w.id ≤ y.id) (waits begun o) handed below)
 
 some_not : {A : Type 0} (o : Option A) → is_some o ≡ false → o ≡ None
 some_not None e = refl
@@ -150,7 +186,9 @@ start_general size f s t id w st lt found free no_start idle unheld before =
       omega (arith, lt, st.size),
       running,
       ap (λ o. option_map (λ (task : Task). task.id) (next_by o s t)) helper
-          ∙ front_cases f.handed f.begun None id w s.waiting st.numbered st.waiting found (ap is_none free) no_start (unfilter (λ v. has_begun f.begun v.id ≡ true) (λ v. is_general v && nat_lt v.id id) f.handed (all_each (λ v. has_begun f.begun v.id) (filter (λ v. is_general v && nat_lt v.id id) f.handed) before)),
+          ∙ front_cases f.handed f.begun None id w s.waiting st.numbered st.waiting found (ap is_none free) no_start
+          (unfilter (λ v. has_begun f.begun v.id ≡ true) (λ v. is_general v && nat_lt v.id id) f.handed
+          (all_each (λ v. has_begun f.begun v.id) (filter (λ v. is_general v && nat_lt v.id id) f.handed) before)),
     )
 
 finished_begun : (begun : List Begun) (finished : List (ℕ × Outcome)) (id : ℕ) → Each (λ x. has_begun begun x.0 ≡ true) finished
@@ -173,15 +211,21 @@ start_own size f s t id helper w st found for_helper no_start on idle before =
     let w_id = found_id id w f.handed found in
     let open_yet = unfinished f.begun f.finished id st.begun_first no_start in
     let goes_on : over_in f.ended f.finished f.handed helper ≡ false =
-    ap (λ b. is_among f.ended helper && b) (not_all f.handed f.finished helper id w found of (ap (has_finished f.finished) w_id ∙ open_yet)) ∙ and_no (is_among f.ended helper) in
+    ap (λ b. is_among f.ended helper && b)
+    (not_all f.handed f.finished helper id w found of (ap (has_finished f.finished) w_id ∙ open_yet))
+    ∙ and_no (is_among f.ended helper) in
     let there = holds size f s t helper st on goes_on in
     let running = some_not x.running (sym (runs_is size f s t st there.0) ∙ idle) in
     let queue = subst (λ o. IsQueueFor f.handed f.begun f.ended o x) there.1 (st.each_thread t there.0).queue in
-    let each = unfilter (λ v. has_finished f.finished v.id ≡ true) (λ v. is_for helper v && nat_lt v.id id) f.handed (all_each (λ v. has_finished f.finished v.id) (filter (λ v. is_for helper v && nat_lt v.id id) f.handed) before) in (
+    let each = unfilter (λ v. has_finished f.finished v.id ≡ true) (λ v. is_for helper v && nat_lt v.id id) f.handed
+    (all_each (λ v. has_finished f.finished v.id) (filter (λ v. is_for helper v && nat_lt v.id id) f.handed) before) in (
       omega (arith, there.0, st.size),
       running,
       ap (λ o. option_map (λ (task : Task). task.id) (next_by o s t)) there.1
-          ∙ front_cases f.handed f.begun (Some helper) id w x.queue st.numbered queue.0 found of no_start (each_map (λ v. (is_for helper v && nat_lt v.id id) ≡ true → has_finished f.finished v.id ≡ true) (λ v. (is_for helper v && nat_lt v.id id) ≡ true → has_begun f.begun v.id ≡ true) (λ v k e. finished_begun f.begun f.finished v.id st.begun_first (k e)) f.handed each),
+          ∙ front_cases f.handed f.begun (Some helper) id w x.queue st.numbered queue.0 found of no_start
+          (each_map (λ v. (is_for helper v && nat_lt v.id id) ≡ true → has_finished f.finished v.id ≡ true)
+          (λ v. (is_for helper v && nat_lt v.id id) ≡ true → has_begun f.begun v.id ≡ true)
+          (λ v k e. finished_begun f.begun f.finished v.id st.begun_first (k e)) f.handed each),
     )
 
 abbrev pub StartsBy : ℕ → Facts → ℕ → ℕ → Handed → Option ℕ → Type 0
@@ -203,8 +247,14 @@ next_general : (size : ℕ) (f : Facts) (s : DeskState) (t : ℕ) (task : Task) 
 next_general size f s t task st lt idle free first =
     let front = front_of f.handed f.begun None task (rest_of s.waiting) st.numbered (sym st.waiting ∙ cons_of s.waiting task first) in
     let w = front.work in
-    subst (StartsAt size f t task.id) (sym front.found) (subst (StartsBy size f t task.id w) (sym (of_is None w front.of))
-    (lt, front.unbegun, runs_is size f s t st lt ∙ ap is_some idle, held_is size f s t st lt ∙ ap is_some free, all_filter (λ v. is_general v && nat_lt v.id task.id) (λ v. has_begun f.begun v.id) f.handed (begun_before f.handed f.begun None task (rest_of s.waiting) st.numbered front)))
+    subst (StartsAt size f t task.id) (sym front.found) (subst (StartsBy size f t task.id w) (sym (of_is None w front.of)) (
+      lt,
+      front.unbegun,
+      runs_is size f s t st lt ∙ ap is_some idle,
+      held_is size f s t st lt ∙ ap is_some free,
+      all_filter (λ v. is_general v && nat_lt v.id task.id) (λ v. has_begun f.begun v.id) f.handed
+          (begun_before f.handed f.begun None task (rest_of s.waiting) st.numbered front),
+    ))
 
 next_own : (size : ℕ) (f : Facts) (s : DeskState) (t helper : ℕ) (task : Task) → Stands size f s → t < size → (thread_at s t).running ≡ None
     → (thread_at s t).helper ≡ Some helper → first_of (thread_at s t).queue ≡ Some task → StartsAt size f t task.id (work_in f.handed task.id)
@@ -217,9 +267,19 @@ next_own size f s t helper task st lt idle has first =
     let w = front.work in
     let still = filter_nil (λ (b : Begun). b.thread == t && not (has_finished f.finished b.id)) f.begun (row.running ∙ ap (begun_list t) idle) in
     let before = begun_before f.handed f.begun (Some helper) task (rest_of x.queue) st.numbered front in
-    let done = each_map (λ v. ((is_for helper v && nat_lt v.id task.id) ≡ true → has_begun f.begun v.id ≡ true) × (work_in f.handed v.id ≡ Some v)) (λ v. (is_for helper v && nat_lt v.id task.id) ≡ true → has_finished f.finished v.id ≡ true) (λ v k e. done_once f.handed f.begun f.finished f.reserved t helper v st.begun_once still of.thread k.1 (and_parts (is_for helper v) (nat_lt v.id task.id) e).0 (k.0 e)) f.handed (each_both (λ v. (is_for helper v && nat_lt v.id task.id) ≡ true → has_begun f.begun v.id ≡ true) (λ v. work_in f.handed v.id ≡ Some v) f.handed before (findable 0 f.handed (numbered_grow 0 f.handed st.numbered))) in
-    subst (StartsAt size f t task.id) (sym front.found) (subst (StartsBy size f t task.id w) (sym (of_is (Some helper) w front.of))
-    (of.thread, front.unbegun, runs_is size f s t st lt ∙ ap is_some idle, all_filter (λ v. is_for helper v && nat_lt v.id task.id) (λ v. has_finished f.finished v.id) f.handed done))
+    let done = each_map (λ v. ((is_for helper v && nat_lt v.id task.id) ≡ true → has_begun f.begun v.id ≡ true)
+    × (work_in f.handed v.id ≡ Some v)) (λ v. (is_for helper v && nat_lt v.id task.id) ≡ true → has_finished f.finished v.id ≡ true)
+    (λ v k e. done_once f.handed f.begun f.finished f.reserved t helper v st.begun_once still of.thread k.1
+    (and_parts (is_for helper v) (nat_lt v.id task.id) e).0 (k.0 e)) f.handed
+    (each_both (λ v. (is_for helper v && nat_lt v.id task.id) ≡ true → has_begun f.begun v.id ≡ true)
+    (λ v. work_in f.handed v.id ≡ Some v) f.handed before (findable 0 f.handed (numbered_grow 0 f.handed st.numbered))) in
+    subst (StartsAt size f t task.id) (sym front.found) (subst (StartsBy size f t task.id w) (sym (of_is (Some helper) w front.of)) (
+      of.thread,
+      front.unbegun,
+      runs_is size f s t st lt ∙ ap is_some idle,
+      all_filter (λ v. is_for helper v && nat_lt v.id task.id)
+          (λ v. has_finished f.finished v.id) f.handed done,
+    ))
 
 next_by_helper : (size : ℕ) (f : Facts) (s : DeskState) (t : ℕ) (task : Task) (o : Option ℕ) → Stands size f s → t < size
     → (thread_at s t).running ≡ None → (thread_at s t).helper ≡ o → next_by o s t ≡ Some task → StartsAt size f t task.id (work_in f.handed task.id)
@@ -274,11 +334,16 @@ runs_one : (f : Facts) (t id : ℕ) (b : Begun) (o : Option Task) → running_on
     → (task : Task) × (o ≡ Some task) × (task.id ≡ id)
 runs_one f t id b None runs found open_yet =
     let parts = and_parts (b.thread == t) (b.id == id) (find_passes (λ (x : Begun). x.thread == t && x.id == id) f.begun b found) in
-    let none = each_find (λ (x : Begun). (x.thread == t && not (has_finished f.finished x.id)) ≡ false) (λ (x : Begun). x.thread == t && x.id == id) f.begun b (filter_nil (λ (x : Begun). x.thread == t && not (has_finished f.finished x.id)) f.begun runs) found in
+    let none = each_find (λ (x : Begun). (x.thread == t && not (has_finished f.finished x.id)) ≡ false)
+    (λ (x : Begun). x.thread == t && x.id == id) f.begun b
+    (filter_nil (λ (x : Begun). x.thread == t && not (has_finished f.finished x.id)) f.begun runs) found in
     absurd (cc (none, and_now (b.thread == t) (has_finished f.finished b.id) parts.0 (ap (has_finished f.finished) (eqb-true b.id id parts.1) ∙ open_yet)))
 runs_one f t id b (Some task) runs found open_yet =
     let parts = and_parts (b.thread == t) (b.id == id) (find_passes (λ (x : Begun). x.thread == t && x.id == id) f.begun b found) in
-    let one = each_find (λ (x : Begun). (x.thread == t && not (has_finished f.finished x.id)) ≡ true → x ≡ record { thread = t; id = task.id }) (λ (x : Begun). x.thread == t && x.id == id) f.begun b (one_passes (λ (x : Begun). x.thread == t && not (has_finished f.finished x.id)) f.begun (record { thread = t; id = task.id }) runs) found in
+    let one = each_find (λ (x : Begun). (x.thread == t && not (has_finished f.finished x.id)) ≡ true
+    → x ≡ record { thread = t; id = task.id }) (λ (x : Begun). x.thread == t && x.id == id) f.begun b
+    (one_passes (λ (x : Begun). x.thread == t && not (has_finished f.finished x.id)) f.begun
+    (record { thread = t; id = task.id }) runs) found in
     let same = one (and_now (b.thread == t) (has_finished f.finished b.id) parts.0 (ap (has_finished f.finished) (eqb-true b.id id parts.1) ∙ open_yet)) in
     (task, refl, sym (ap (λ (x : Begun). x.id) same) ∙ eqb-true b.id id parts.1)
 
@@ -293,14 +358,19 @@ ends_of size f s t id outcome st started open_yet value =
     let row = st.each_thread t lt in
     let x = thread_at s t in
     let one = runs_one f t id k.0 x.running row.running k.1 open_yet in
-    let task : work_in f.handed one.0.id ≡ Some (record { id = one.0.id; work = one.0.work; helper = x.helper }) = subst (IsTaskFor f.handed x.helper) one.1 row.task in
-    (omega (arith, lt, st.size), subst (Ends id outcome) (sym one.1) (one.2, subst (λ o. HasValue o outcome) task (subst (λ n. HasValue (work_in f.handed n) outcome) (sym one.2) value)))
+    let task : work_in f.handed one.0.id ≡ Some (record { id = one.0.id; work = one.0.work; helper = x.helper }) =
+    subst (IsTaskFor f.handed x.helper) one.1 row.task in (
+      omega (arith, lt, st.size),
+      subst (Ends id outcome) (sym one.1)
+          (one.2, subst (λ o. HasValue o outcome) task (subst (λ n. HasValue (work_in f.handed n) outcome) (sym one.2) value)),
+    )
 
 -- whether the thread runs the work
 began : (f : Facts) (t : ℕ) (task : Task) → IsRunning f t task → list_any (λ (b : Begun). b.thread == t && b.id == task.id) f.begun ≡ true
 began f t task run =
     true_from_ne_false (list_any (λ (b : Begun). b.thread == t && b.id == task.id) f.begun) (λ e.
-    let none = each_find (λ (b : Begun). (b.thread == t && b.id == task.id) ≡ false) (λ (b : Begun). b.id == task.id) f.begun (record { thread = t; id = task.id }) (any_none (λ (b : Begun). b.thread == t && b.id == task.id) f.begun e) run.first in
+    let none = each_find (λ (b : Begun). (b.thread == t && b.id == task.id) ≡ false) (λ (b : Begun). b.id == task.id) f.begun
+    (record { thread = t; id = task.id }) (any_none (λ (b : Begun). b.thread == t && b.id == task.id) f.begun e) run.first in
     absurd (cc (none, and_yes (t == t) (task.id == task.id) (eq-eqb t t refl) (eq-eqb task.id task.id refl))))
 
 ends_rule : (size : ℕ) (f : Facts) (s : DeskState) (t id : ℕ) (outcome : Outcome) (o : Option Task) → Stands size f s → t < size
@@ -310,8 +380,10 @@ ends_rule size f s t id outcome None st lt is h = absurd h
 ends_rule size f s t id outcome (Some task) st lt is h =
     let run = running_of size f s t task st lt is in
     let x = thread_at s t in
-    let found : work_in f.handed task.id ≡ Some (record { id = task.id; work = task.work; helper = x.helper }) = subst (IsTaskFor f.handed x.helper) is (st.each_thread t lt).task in
-    subst (λ n. (list_any (λ (b : Begun). b.thread == t && b.id == n) f.begun ≡ true) × (has_finished f.finished n ≡ false) × HasValue (work_in f.handed n) outcome) h.0
+    let found : work_in f.handed task.id ≡ Some (record { id = task.id; work = task.work; helper = x.helper }) =
+    subst (IsTaskFor f.handed x.helper) is (st.each_thread t lt).task in
+    subst (λ n. (list_any (λ (b : Begun). b.thread == t && b.id == n) f.begun ≡ true) × (has_finished f.finished n ≡ false)
+    × HasValue (work_in f.handed n) outcome) h.0
     (began f t task run, run.unfinished, subst (λ o. HasValue o outcome) (sym found) h.1)
 
 -- events that may not come after a close
@@ -382,17 +454,33 @@ fits_legal size askers history s r (event.Submit id work helper) st asked h k =
 fits_legal size askers history s r (event.Start thread id) st asked h k =
     record { open_or_late = not_closed (list_any is_close history) (sym st.closed ∙ h.0); rule = fits_starts size history s thread id st h }
 fits_legal size askers history s r (event.Finish thread id outcome) st asked h k =
-    record { open_or_late = late_ok (list_any is_close history); rule = ends_rule size (facts_of history) s thread id outcome (thread_at s thread).running st (omega (arith, h.0, st.size)) refl h.1 }
+    record {
+      open_or_late = late_ok (list_any is_close history);
+      rule =
+          ends_rule size (facts_of history) s thread id outcome (thread_at s thread).running st (omega (arith, h.0, st.size)) refl h.1;
+    }
 fits_legal size askers history s r (event.Request q a n) st asked h k =
-    record { open_or_late = not_closed (list_any is_close history) (sym st.closed ∙ h); rule = (k.0 ∙ next_number askers history r asked, free_idle askers history r a asked k.1) }
+    record {
+      open_or_late = not_closed (list_any is_close history) (sym st.closed ∙ h);
+      rule =
+          (k.0 ∙ next_number askers history r asked, free_idle askers history r a asked k.1);
+    }
 fits_legal size askers history s r (event.AskerEnd a) st asked h k =
     record { open_or_late = not_closed (list_any is_close history) (sym st.closed ∙ h); rule = free_idle askers history r a asked k }
 fits_legal size askers history s r (event.Drain ids requests) st asked h k =
-    record { open_or_late = not_closed (list_any is_close history) (sym st.closed ∙ h.0); rule = (h.1 ∙ owed_is size (facts_of history) s st, k ∙ unfetched_is askers history r asked) }
+    record {
+      open_or_late = not_closed (list_any is_close history) (sym st.closed ∙ h.0);
+      rule =
+          (h.1 ∙ owed_is size (facts_of history) s st, k ∙ unfetched_is askers history r asked);
+    }
 fits_legal size askers history s r (event.Answered q v) st asked h k =
     record { open_or_late = not_closed (list_any is_close history) (sym st.closed ∙ h); rule = answer_rule askers history r q asked k }
 fits_legal size askers history s r (event.HelperNew no' answer) st asked h k =
-    record { open_or_late = not_closed (list_any is_close history) (sym st.closed ∙ h.0); rule = (h.1 ∙ st.helpers, h.2 ∙ sym (answer_is size (facts_of history) s st)) }
+    record {
+      open_or_late = not_closed (list_any is_close history) (sym st.closed ∙ h.0);
+      rule =
+          (h.1 ∙ st.helpers, h.2 ∙ sym (answer_is size (facts_of history) s st));
+    }
 fits_legal size askers history s r (event.HelperEnd helper) st asked h k =
     record { open_or_late = not_closed (list_any is_close history) (sym st.closed ∙ h.0); rule = served_active size (facts_of history) s helper st h.1 }
 fits_legal size askers history s r event.Close st asked h k =

@@ -34,7 +34,8 @@ submit_next : (size : ℕ) (f : Facts) (s : DeskState) (id : ℕ) (work : Work) 
 submit_next size f s id work None st h =
     subst (λ n. Stands size (added (event.Submit n work None) f) (submitted work None s)) (sym h.1) (stands_general size f s work st)
 submit_next size f s id work (Some helper) st h =
-    subst (λ n. Stands size (added (event.Submit n work (Some helper)) f) (submitted work (Some helper) s)) (sym h.1) (submit_at size f s work helper (position (serves helper) s.threads) st refl h.2)
+    subst (λ n. Stands size (added (event.Submit n work (Some helper)) f) (submitted work (Some helper) s)) (sym h.1)
+    (submit_at size f s work helper (position (serves helper) s.threads) st refl h.2)
 
 begin_by : (size : ℕ) (f : Facts) (s : DeskState) (t : ℕ) (task : Task) (o : Option ℕ) → Stands size f s → t < size → (thread_at s t).running ≡ None
     → (thread_at s t).helper ≡ o → next_by o s t ≡ Some task → Stands size (added (event.Start t task.id) f) (begun_of o task t s)
@@ -46,7 +47,8 @@ start_next : (size : ℕ) (f : Facts) (s : DeskState) (t id : ℕ) → Stands si
 start_next size f s t id st h =
     let k = task_next (next_of s t) id h.3 in
     subst (λ n. Stands size (added (event.Start t n) f) (begun_by (next_of s t) t s)) k.2
-    (subst (λ o. Stands size (added (event.Start t k.0.id) f) (begun_by o t s)) (sym k.1) (begin_by size f s t k.0 (thread_at s t).helper st (omega (arith, h.1, st.size)) h.2 refl k.1))
+    (subst (λ o. Stands size (added (event.Start t k.0.id) f) (begun_by o t s)) (sym k.1)
+    (begin_by size f s t k.0 (thread_at s t).helper st (omega (arith, h.1, st.size)) h.2 refl k.1))
 
 finish_by : (size : ℕ) (f : Facts) (s : DeskState) (t id : ℕ) (outcome : Outcome) (o : Option Task) → Stands size f s → t < size
     → (thread_at s t).running ≡ o → Ends id outcome o → Stands size (added (event.Finish t id outcome) f) (finished_by t id outcome s)

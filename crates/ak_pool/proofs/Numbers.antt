@@ -40,13 +40,17 @@ pub front_left : (n : ℕ) (w : Handed) (ws : List Handed) → Grow n (w ∷ ws)
 front_left n w ws h =
     ap (λ b. cond (not b) (w ∷ filter (λ (x : Handed). not (w.id == x.id)) ws) (filter (λ (x : Handed). not (w.id == x.id)) ws)) (eq-eqb w.id w.id refl)
     ∙ filter_all (λ (x : Handed). not (w.id == x.id)) ws
-    (each_map (λ x. w.id + 1 ≤ x.id) (λ x. not (w.id == x.id) ≡ true) (λ x k. ap not (ne_eqb w.id x.id (λ e. absurd (omega (arith, e, k))))) ws (grow_each (w.id + 1) ws h.1))
+    (each_map (λ x. w.id + 1 ≤ x.id) (λ x. not (w.id == x.id) ≡ true)
+    (λ x k. ap not (ne_eqb w.id x.id (λ e. absurd (omega (arith, e, k))))) ws (grow_each (w.id + 1) ws h.1))
 
 only_at : (b : Bool) (n id : ℕ) (w w0 : Handed) (ws : List Handed) → (w.id == id) ≡ b → Grow (w.id + 1) ws
     → (find (λ (x : Handed). x.id == id) ws ≡ Some w0 → Each (λ x. x.id ≡ id → x ≡ w0) ws)
     → cond b (Some w) (find (λ (x : Handed). x.id == id) ws) ≡ Some w0 → (w.id ≡ id → w ≡ w0) × Each (λ x. x.id ≡ id → x ≡ w0) ws
-only_at true n id w w0 ws e h f k =
-    (λ _. some_same w w0 k, each_map (λ x. w.id + 1 ≤ x.id) (λ x. x.id ≡ id → x ≡ w0) (λ x le same. absurd (omega (arith, le, same, eqb-true w.id id e))) ws (grow_each (w.id + 1) ws h))
+only_at true n id w w0 ws e h f k = (
+  λ _. some_same w w0 k,
+  each_map (λ x. w.id + 1 ≤ x.id) (λ x. x.id ≡ id → x ≡ w0)
+      (λ x le same. absurd (omega (arith, le, same, eqb-true w.id id e))) ws (grow_each (w.id + 1) ws h),
+)
 only_at false n id w w0 ws e h f k =
     (λ same. absurd (cc (e, eq-eqb w.id id same)), f k)
 
@@ -59,8 +63,13 @@ only n id w0 (w ∷ ws) h e =
 -- each work is found under its number
 pub findable : (n : ℕ) (ws : List Handed) → Grow n ws → Each (λ w. work_in ws w.id ≡ Some w) ws
 findable n [] h = tt
-findable n (w ∷ ws) h =
-    (ap (λ b. cond b (Some w) (find (λ (x : Handed). x.id == w.id) ws)) (eq-eqb w.id w.id refl), each_map (λ x. (w.id + 1 ≤ x.id) × (work_in ws x.id ≡ Some x)) (λ x. work_in (w ∷ ws) x.id ≡ Some x) (λ x k. ap (λ b. cond b (Some w) (find (λ (y : Handed). y.id == x.id) ws)) (ne_eqb w.id x.id (λ e. absurd (omega (arith, e, k.0)))) ∙ k.1) ws (each_both (λ x. w.id + 1 ≤ x.id) (λ x. work_in ws x.id ≡ Some x) ws (grow_each (w.id + 1) ws h.1) (findable (w.id + 1) ws h.1)))
+findable n (w ∷ ws) h = (
+  ap (λ b. cond b (Some w) (find (λ (x : Handed). x.id == w.id) ws)) (eq-eqb w.id w.id refl),
+  each_map (λ x. (w.id + 1 ≤ x.id) × (work_in ws x.id ≡ Some x)) (λ x. work_in (w ∷ ws) x.id ≡ Some x)
+      (λ x k. ap (λ b. cond b (Some w) (find (λ (y : Handed). y.id == x.id) ws))
+      (ne_eqb w.id x.id (λ e. absurd (omega (arith, e, k.0)))) ∙ k.1) ws
+      (each_both (λ x. w.id + 1 ≤ x.id) (λ x. work_in ws x.id ≡ Some x) ws (grow_each (w.id + 1) ws h.1) (findable (w.id + 1) ws h.1)),
+)
 
 pub found_id : (id : ℕ) (w : Handed) (ws : List Handed) → work_in ws id ≡ Some w → w.id ≡ id
 found_id id w ws e = eqb-true w.id id (find_passes (λ (x : Handed). x.id == id) ws w e)
@@ -71,8 +80,11 @@ numbered_last n (x ∷ xs) w h e = (h.0, numbered_last (suc n) xs w h.1 (omega (
 
 pub numbered_below : (n : ℕ) (ws : List Handed) → AreNumbered n ws → Each (λ w. w.id < n + length ws) ws
 numbered_below n [] h = tt
-numbered_below n (w ∷ ws) h =
-    (omega (arith, h.0), each_map (λ x. x.id < suc n + length ws) (λ x. x.id < n + length (w ∷ ws)) (λ x k. omega (arith, k)) ws (numbered_below (suc n) ws h.1))
+numbered_below n (w ∷ ws) h = (
+  omega (arith, h.0),
+  each_map (λ x. x.id < suc n + length ws) (λ x. x.id < n + length (w ∷ ws)) (λ x k. omega (arith, k)) ws
+      (numbered_below (suc n) ws h.1),
+)
 
 pub found_below : (id : ℕ) (w : Handed) (ws : List Handed) → AreNumbered 0 ws → work_in ws id ≡ Some w → id < length ws
 found_below id w ws h e =

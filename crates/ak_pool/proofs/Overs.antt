@@ -22,14 +22,18 @@ map_nil g (x ∷ xs) e = absurd (cc)
 
 pub all_filter : {A : Type 0} (p q : A → Bool) (xs : List A) → Each (λ x. p x ≡ true → q x ≡ true) xs → list_all q (filter p xs) ≡ true
 all_filter p q xs h =
-    each_all_true q (filter p xs) (each_map (λ x. (p x ≡ true → q x ≡ true) × (p x ≡ true)) (λ x. q x ≡ true) (λ x k. k.0 k.1) (filter p xs) (each_both (λ x. p x ≡ true → q x ≡ true) (λ x. p x ≡ true) (filter p xs) (each_filter (λ x. p x ≡ true → q x ≡ true) p xs h) (each_passes p xs)))
+    each_all_true q (filter p xs)
+    (each_map (λ x. (p x ≡ true → q x ≡ true) × (p x ≡ true)) (λ x. q x ≡ true) (λ x k. k.0 k.1) (filter p xs)
+    (each_both (λ x. p x ≡ true → q x ≡ true) (λ x. p x ≡ true) (filter p xs) (each_filter (λ x. p x ≡ true → q x ≡ true) p xs h)
+    (each_passes p xs)))
 
 -- a helper has a work that is not finished
 pub not_all : (handed : List Handed) (finished : List (ℕ × Outcome)) (helper id : ℕ) (w : Handed) → work_in handed id ≡ Some w
     → is_for helper w ≡ true → has_finished finished w.id ≡ false → list_all (λ v. has_finished finished v.id) (filter (is_for helper) handed) ≡ false
 not_all handed finished helper id w found of open_yet =
     false_from_ne_true _ (λ e.
-    let all = unfilter (λ v. has_finished finished v.id ≡ true) (is_for helper) handed (all_each (λ v. has_finished finished v.id) (filter (is_for helper) handed) e) in
+    let all = unfilter (λ v. has_finished finished v.id ≡ true) (is_for helper) handed
+    (all_each (λ v. has_finished finished v.id) (filter (is_for helper) handed) e) in
     let one = each_find (λ v. is_for helper v ≡ true → has_finished finished v.id ≡ true) (λ v. v.id == id) handed w all found of in
     absurd (cc (one, open_yet)))
 
@@ -47,7 +51,10 @@ pub done_once : (handed : List Handed) (begun : List Begun) (finished : List (�
     → thread_in reserved helper ≡ Some t → work_in handed w.id ≡ Some w → is_for helper w ≡ true → has_begun begun w.id ≡ true
     → has_finished finished w.id ≡ true
 done_once handed begun finished reserved t helper w once idle on found of started =
-    let one = any_one (λ b. IsBegunOnce handed reserved begun b × ((b.thread == t && not (has_finished finished b.id)) ≡ false)) (λ (b : Begun). b.id == w.id) begun (each_both (IsBegunOnce handed reserved begun) (λ b. (b.thread == t && not (has_finished finished b.id)) ≡ false) begun once idle) started in
+    let one = any_one (λ b. IsBegunOnce handed reserved begun b × ((b.thread == t && not (has_finished finished b.id)) ≡ false))
+    (λ (b : Begun). b.id == w.id) begun
+    (each_both (IsBegunOnce handed reserved begun) (λ b. (b.thread == t && not (has_finished finished b.id)) ≡ false) begun once idle)
+    started in
     let b = one.0 in
     let id : b.id ≡ w.id = eqb-true b.id w.id one.2 in
     let same : one.1.0.work ≡ w = some_same _ _ (sym one.1.0.is ∙ ap (work_in handed) id ∙ found) in
@@ -67,14 +74,19 @@ over_idle handed begun finished reserved t helper [] num once first idle q on =
     let none = filter_nil (waits begun (Some helper)) handed (map_nil task_of (filter (waits begun (Some helper)) handed) (sym q)) in
     let still = filter_nil (λ (b : Begun). b.thread == t && not (has_finished finished b.id)) begun idle in
     all_filter (is_for helper) (λ w. has_finished finished w.id) handed
-    (each_map (λ w. (waits begun (Some helper) w ≡ false) × (work_in handed w.id ≡ Some w)) (λ w. is_for helper w ≡ true → has_finished finished w.id ≡ true) (λ w k of. done_once handed begun finished reserved t helper w once still on k.1 of (waits_false begun helper w k.0 of)) handed (each_both (λ w. waits begun (Some helper) w ≡ false) (λ w. work_in handed w.id ≡ Some w) handed none (findable 0 handed (numbered_grow 0 handed num))))
+    (each_map (λ w. (waits begun (Some helper) w ≡ false) × (work_in handed w.id ≡ Some w)) (λ w. is_for helper w ≡ true
+    → has_finished finished w.id ≡ true)
+    (λ w k of. done_once handed begun finished reserved t helper w once still on k.1 of (waits_false begun helper w k.0 of)) handed
+    (each_both (λ w. waits begun (Some helper) w ≡ false) (λ w. work_in handed w.id ≡ Some w) handed none
+    (findable 0 handed (numbered_grow 0 handed num))))
 over_idle handed begun finished reserved t helper (x ∷ xs) num once first idle q on =
     let front = front_of handed begun (Some helper) x xs num (sym q) in
     let id : front.work.id ≡ x.id = ap (λ (k : Task). k.id) front.same in
     not_all handed finished helper x.id front.work front.found front.of (ap (has_finished finished) id ∙ unfinished begun finished x.id first front.unbegun)
 
 -- the works of a helper are finished where its thread runs nothing and nothing waits
-pub over_when : (handed : List Handed) (begun : List Begun) (finished : List (ℕ × Outcome)) (reserved : List Reserved) (t helper : ℕ) (running : Option Task) (queue : List Task)
+pub over_when : (handed : List Handed) (begun : List Begun) (finished : List (ℕ × Outcome)) (reserved : List Reserved) (t helper : ℕ)
+    (running : Option Task) (queue : List Task)
     → AreNumbered 0 handed → Each (IsBegunOnce handed reserved begun) begun → Each (λ x. has_begun begun x.0 ≡ true) finished
     → running_on begun finished t ≡ begun_list t running → IsTaskFor handed (Some helper) running → queue ≡ unbegun handed begun (Some helper)
     → thread_in reserved helper ≡ Some t
@@ -82,7 +94,8 @@ pub over_when : (handed : List Handed) (begun : List Begun) (finished : List (�
 over_when handed begun finished reserved t helper None queue num once first runs task q on =
     over_idle handed begun finished reserved t helper queue num once first runs q on
 over_when handed begun finished reserved t helper (Some task) queue num once first runs is q on =
-    let one = each_one (λ (b : Begun). Unit {0}) (λ (b : Begun). b.thread == t && not (has_finished finished b.id)) begun [] (record { thread = t; id = task.id }) (each_all (λ (b : Begun). Unit {0}) (λ b. tt) begun) runs in
+    let one = each_one (λ (b : Begun). Unit {0}) (λ (b : Begun). b.thread == t && not (has_finished finished b.id)) begun []
+    (record { thread = t; id = task.id }) (each_all (λ (b : Begun). Unit {0}) (λ b. tt) begun) runs in
     let two = and_both (t == t) (has_finished finished task.id) one.1 in
     not_all handed finished helper task.id (record { id = task.id; work = task.work; helper = Some helper }) is (eq-eqb helper helper refl) two.1
 
@@ -103,11 +116,24 @@ left_at a v v' o false f g = ap (λ b. a && not b) (g refl) ∙ and_true (a && n
 pub held_left : (reserved : List Reserved) (ended ended' : List ℕ) (finished finished' : List (ℕ × Outcome)) (handed : List Handed) (helper : ℕ)
     → over_in ended finished handed helper ≡ false
     → ((h : ℕ) → (h ≡ helper → ⊥) → over_in ended' finished' handed h ≡ over_in ended finished handed h) → (u : ℕ)
-    → held_on reserved ended' finished' handed u ≡ filter (λ r. not (r.helper == helper && over_in ended' finished' handed helper)) (held_on reserved ended finished handed u)
+    → held_on reserved ended' finished' handed u ≡ filter (λ r. not (r.helper == helper && over_in ended' finished' handed helper))
+    (held_on reserved ended finished handed u)
 held_left reserved ended ended' finished finished' handed helper before same u =
-    filter_same (λ r. r.thread == u && not (over_in ended' finished' handed r.helper)) (λ r. (r.thread == u && not (over_in ended finished handed r.helper)) && not (r.helper == helper && over_in ended' finished' handed helper)) reserved
-    (each_all (λ r. (r.thread == u && not (over_in ended' finished' handed r.helper)) ≡ ((r.thread == u && not (over_in ended finished handed r.helper)) && not (r.helper == helper && over_in ended' finished' handed helper))) (λ r. left_at (r.thread == u) (over_in ended finished handed r.helper) (over_in ended' finished' handed r.helper) (over_in ended' finished' handed helper) (r.helper == helper) (λ e. (ap (over_in ended finished handed) (eqb-true r.helper helper e) ∙ before, ap (over_in ended' finished' handed) (eqb-true r.helper helper e))) (λ e. same r.helper (λ k. absurd (cc (e, eq-eqb r.helper helper k))))) reserved)
-    ∙ sym (filter_filter (λ r. r.thread == u && not (over_in ended finished handed r.helper)) (λ r. not (r.helper == helper && over_in ended' finished' handed helper)) reserved)
+    filter_same (λ r. r.thread == u && not (over_in ended' finished' handed r.helper))
+    (λ r. (r.thread == u && not (over_in ended finished handed r.helper)) && not
+    (r.helper == helper && over_in ended' finished' handed helper)) reserved
+    (each_all (λ r. (r.thread == u && not (over_in ended' finished' handed r.helper))
+    ≡ ((r.thread == u && not (over_in ended finished handed r.helper)) && not
+    (r.helper == helper && over_in ended' finished' handed helper)))
+    (λ r. left_at (r.thread == u) (over_in ended finished handed r.helper) (over_in ended' finished' handed r.helper)
+    (over_in ended' finished' handed helper) (r.helper == helper)
+    (λ e. (
+      ap (over_in ended finished handed) (eqb-true r.helper helper e) ∙ before,
+      ap (over_in ended' finished' handed) (eqb-true r.helper helper e),
+    ))
+    (λ e. same r.helper (λ k. absurd (cc (e, eq-eqb r.helper helper k))))) reserved)
+    ∙ sym (filter_filter (λ r. r.thread == u && not (over_in ended finished handed r.helper))
+    (λ r. not (r.helper == helper && over_in ended' finished' handed helper)) reserved)
 
 -- the list of the one helper that holds a thread, without the helper that is over
 pub list_left : (t helper : ℕ) (o : Bool)
@@ -134,7 +160,8 @@ empty_of : {A : Type 0} (xs : List A) → is_empty_list xs ≡ true → xs ≡ [
 empty_of [] e = refl
 empty_of (x ∷ xs) e = absurd (cc)
 
-vacated_at : (handed : List Handed) (begun : List Begun) (finished : List (ℕ × Outcome)) (reserved : List Reserved) (ended : List ℕ) (t helper : ℕ) (z : ThreadState) (b : Bool)
+vacated_at : (handed : List Handed) (begun : List Begun) (finished : List (ℕ × Outcome)) (reserved : List Reserved) (ended : List ℕ)
+    (t helper : ℕ) (z : ThreadState) (b : Bool)
     → is_left z ≡ b → z.helper ≡ Some helper → running_on begun finished t ≡ begun_list t z.running → IsTaskFor handed (Some helper) z.running
     → held_on reserved ended finished handed t ≡ cond b [] (reserved_list t (Some helper)) → IsQueueFor handed begun ended (Some helper) z
     → ThreadStands handed begun finished reserved ended t (cond b (record z { helper = None; ended = false }) z)
@@ -156,7 +183,8 @@ vacated_at handed begun finished reserved ended t helper z false e is runs task 
     }
 
 -- the thread of a helper that may be over by now
-pub stands_vacated : (handed : List Handed) (begun : List Begun) (finished : List (ℕ × Outcome)) (reserved : List Reserved) (ended : List ℕ) (t helper : ℕ) (z : ThreadState)
+pub stands_vacated : (handed : List Handed) (begun : List Begun) (finished : List (ℕ × Outcome)) (reserved : List Reserved)
+    (ended : List ℕ) (t helper : ℕ) (z : ThreadState)
     → z.helper ≡ Some helper → running_on begun finished t ≡ begun_list t z.running → IsTaskFor handed (Some helper) z.running
     → held_on reserved ended finished handed t ≡ cond (is_left z) [] (reserved_list t (Some helper)) → IsQueueFor handed begun ended (Some helper) z
     → ThreadStands handed begun finished reserved ended t (vacated z)
@@ -168,7 +196,8 @@ and_assoc true b c = refl
 and_assoc false b c = refl
 
 -- whether the helper is over, by its thread
-pub over_by_thread : (handed : List Handed) (begun : List Begun) (finished : List (ℕ × Outcome)) (reserved : List Reserved) (ended : List ℕ) (t helper : ℕ) (z : ThreadState)
+pub over_by_thread : (handed : List Handed) (begun : List Begun) (finished : List (ℕ × Outcome)) (reserved : List Reserved)
+    (ended : List ℕ) (t helper : ℕ) (z : ThreadState)
     → AreNumbered 0 handed → Each (IsBegunOnce handed reserved begun) begun → Each (λ x. has_begun begun x.0 ≡ true) finished
     → running_on begun finished t ≡ begun_list t z.running → IsTaskFor handed (Some helper) z.running → IsQueueFor handed begun ended (Some helper) z
     → thread_in reserved helper ≡ Some t → over_in ended finished handed helper ≡ is_left z

@@ -100,7 +100,8 @@ legal_kept size askers history after s r e legal st asked fits fits_too same =
 pub stands_kept : (size : ℕ) (history after : List Event) (s s' : DeskState) (e : Event) → Stands size (facts_of history) s → Fits s e
     → after ≡ history ++ e ∷ [] → s' ≡ noted e s → Stands size (facts_of after) s'
 stands_kept size history after s s' e st fits same now =
-    subst (λ h. Stands size (facts_of h) s') (sym same) (subst (λ d. Stands size (facts_of (history ++ e ∷ [])) d) (sym now) (stands_next size history s e st fits))
+    subst (λ h. Stands size (facts_of h) s') (sym same)
+    (subst (λ d. Stands size (facts_of (history ++ e ∷ [])) d) (sym now) (stands_next size history s e st fits))
 
 pub asked_kept : (askers : ℕ) (history after : List Event) (r r' : RequestsState) (e : Event) → AskersStand askers (request_facts history) r
     → FitsRequests r e → after ≡ history ++ e ∷ [] → r' ≡ requests_noted e r
@@ -128,8 +129,10 @@ answer_now size history s st = sym (answer_is size (facts_of history) s st)
 -- the work that may start is the one that is next
 pub may_is : (size : ℕ) (history : List Event) (s : DeskState) (t id : ℕ) → Stands size (facts_of history) s → s.closed ≡ false → t < size
     → (thread_at s t).running ≡ None → (option_map (λ (task : Task). task.id) (next_of s t) ≡ Some id) ↔ MayStart size history t id
-may_is size history s t id st unclosed lt idle =
-    (λ e. may_fit size history s t id st (unclosed, omega (arith, lt, st.size), idle, e), λ may. (legal_fits size 0 history s (event.Start t id) st (start_legal size history t id may)).3)
+may_is size history s t id st unclosed lt idle = (
+  λ e. may_fit size history s t id st (unclosed, omega (arith, lt, st.size), idle, e),
+  λ may. (legal_fits size 0 history s (event.Start t id) st (start_legal size history t id may)).3,
+)
 
 closed_submitted : (work : Work) (o : Option ℕ) (s : DeskState) → (submitted_at work o s).closed ≡ s.closed
 closed_submitted work None s = refl
@@ -177,29 +180,43 @@ due_in p = due_of p.desk + due_of_requests p.requests
 pub pool_kept : (p q : Inside) (e : Event) → IsLegalPool p → Fits p.desk e → FitsRequests p.requests e → is_close e ≡ false → q.threads ≡ p.threads
     → q.askers ≡ p.askers → q.events.items ≡ p.events.items ++ e ∷ []
     → q.desk ≡ noted e p.desk → q.requests ≡ requests_noted e p.requests
-    → ((b : ℕ) → vec_len p.events + (due_in p + p.spare + b) ≤ vec_capacity p.events → b ≤ 1 → vec_len q.events + (due_in q + q.spare + b) ≤ vec_capacity q.events) → IsLegalPool q
+    → ((b : ℕ) → vec_len p.events + (due_in p + p.spare + b) ≤ vec_capacity p.events → b ≤ 1
+    → vec_len q.events + (due_in q + q.spare + b) ≤ vec_capacity q.events) → IsLegalPool q
 pool_kept p q e inv fits fits_too late threads askers events desk requests room =
     let same : q.desk.closed ≡ p.desk.closed = ap (λ (d : DeskState). d.closed) desk ∙ closed_noted p.desk e late in
     let bit : cond q.desk.closed 0 1 ≡ cond p.desk.closed 0 1 = ap (λ b. open_of b) same in
     record {
-      legal = subst (λ n. Legal n q.askers q.events.items) (sym threads) (subst (λ n. Legal p.threads n q.events.items) (sym askers) (legal_kept p.threads p.askers p.events.items q.events.items p.desk p.requests e inv.legal inv.stands inv.asked fits fits_too events));
-      stands = subst (λ n. Stands n (facts_of q.events.items) q.desk) (sym threads) (stands_kept p.threads p.events.items q.events.items p.desk q.desk e inv.stands fits events desk);
-      asked = subst (λ n. AskersStand n (request_facts q.events.items) q.requests) (sym askers) (asked_kept p.askers p.events.items q.events.items p.requests q.requests e inv.asked fits_too events requests);
-      room = subst (λ n. vec_len q.events + (due_in q + q.spare + n) ≤ vec_capacity q.events) (sym bit) (room (cond p.desk.closed 0 1) inv.room (open_bit p.desk.closed));
+      legal = subst (λ n. Legal n q.askers q.events.items) (sym threads)
+          (subst (λ n. Legal p.threads n q.events.items) (sym askers)
+          (legal_kept p.threads p.askers p.events.items q.events.items p.desk p.requests e inv.legal inv.stands inv.asked fits fits_too
+          events));
+      stands = subst (λ n. Stands n (facts_of q.events.items) q.desk) (sym threads)
+          (stands_kept p.threads p.events.items q.events.items p.desk q.desk e inv.stands fits events desk);
+      asked = subst (λ n. AskersStand n (request_facts q.events.items) q.requests) (sym askers)
+          (asked_kept p.askers p.events.items q.events.items p.requests q.requests e inv.asked fits_too events requests);
+      room = subst (λ n. vec_len q.events + (due_in q + q.spare + n) ≤ vec_capacity q.events) (sym bit)
+          (room (cond p.desk.closed 0 1) inv.room (open_bit p.desk.closed));
     }
 
 -- the pool after its close
 pub pool_closed : (p q : Inside) → IsLegalPool p → p.desk.closed ≡ false → q.threads ≡ p.threads → q.askers ≡ p.askers
     → q.events.items ≡ p.events.items ++ event.Close ∷ [] → q.desk ≡ noted event.Close p.desk → q.requests ≡ p.requests
-    → (vec_len p.events + (due_in p + p.spare + 1) ≤ vec_capacity p.events → vec_len q.events + (due_in q + q.spare + 0) ≤ vec_capacity q.events) → IsLegalPool q
+    → (vec_len p.events + (due_in p + p.spare + 1) ≤ vec_capacity p.events → vec_len q.events + (due_in q + q.spare + 0)
+    ≤ vec_capacity q.events) → IsLegalPool q
 pool_closed p q inv fits threads askers events desk requests room =
     let before : cond p.desk.closed 0 1 ≡ 1 = ap (λ b. open_of b) fits in
     let after : cond q.desk.closed 0 1 ≡ 0 = ap (λ (d : DeskState). open_of d.closed) desk in
     record {
-      legal = subst (λ n. Legal n q.askers q.events.items) (sym threads) (subst (λ n. Legal p.threads n q.events.items) (sym askers) (legal_kept p.threads p.askers p.events.items q.events.items p.desk p.requests event.Close inv.legal inv.stands inv.asked fits tt events));
-      stands = subst (λ n. Stands n (facts_of q.events.items) q.desk) (sym threads) (stands_kept p.threads p.events.items q.events.items p.desk q.desk event.Close inv.stands fits events desk);
-      asked = subst (λ n. AskersStand n (request_facts q.events.items) q.requests) (sym askers) (asked_kept p.askers p.events.items q.events.items p.requests q.requests event.Close inv.asked tt events requests);
-      room = subst (λ n. vec_len q.events + (due_in q + q.spare + n) ≤ vec_capacity q.events) (sym after) (room (subst (λ n. vec_len p.events + (due_in p + p.spare + n) ≤ vec_capacity p.events) before inv.room));
+      legal = subst (λ n. Legal n q.askers q.events.items) (sym threads)
+          (subst (λ n. Legal p.threads n q.events.items) (sym askers)
+          (legal_kept p.threads p.askers p.events.items q.events.items p.desk p.requests event.Close inv.legal inv.stands inv.asked fits
+          tt events));
+      stands = subst (λ n. Stands n (facts_of q.events.items) q.desk) (sym threads)
+          (stands_kept p.threads p.events.items q.events.items p.desk q.desk event.Close inv.stands fits events desk);
+      asked = subst (λ n. AskersStand n (request_facts q.events.items) q.requests) (sym askers)
+          (asked_kept p.askers p.events.items q.events.items p.requests q.requests event.Close inv.asked tt events requests);
+      room = subst (λ n. vec_len q.events + (due_in q + q.spare + n) ≤ vec_capacity q.events) (sym after)
+          (room (subst (λ n. vec_len p.events + (due_in p + p.spare + n) ≤ vec_capacity p.events) before inv.room));
     }
 
 -- a pool of which nothing was asked
@@ -210,15 +227,20 @@ pool_first p threads askers same same_too events desk requests room =
     let bare : cond p.desk.closed 0 1 ≡ 1 = ap (λ (d : DeskState). open_of d.closed) desk in
     record {
       legal = subst (Legal p.threads p.askers) (sym events) tt;
-      stands = subst (λ h. Stands p.threads (facts_of h) p.desk) (sym events) (subst (λ d. Stands p.threads (facts_of []) d) (sym desk) (subst (λ n. Stands n (facts_of []) (no_works threads)) (sym same) (stands_first threads)));
-      asked = subst (λ h. AskersStand p.askers (request_facts h) p.requests) (sym events) (subst (λ d. AskersStand p.askers (request_facts []) d) (sym requests) (subst (λ n. AskersStand n (request_facts []) (nothing_asked askers)) (sym same_too) (asked_first askers)));
+      stands = subst (λ h. Stands p.threads (facts_of h) p.desk) (sym events)
+          (subst (λ d. Stands p.threads (facts_of []) d) (sym desk)
+          (subst (λ n. Stands n (facts_of []) (no_works threads)) (sym same) (stands_first threads)));
+      asked = subst (λ h. AskersStand p.askers (request_facts h) p.requests) (sym events)
+          (subst (λ d. AskersStand p.askers (request_facts []) d) (sym requests)
+          (subst (λ n. AskersStand n (request_facts []) (nothing_asked askers)) (sym same_too) (asked_first askers)));
       room = subst (λ n. vec_len p.events + (due_in p + p.spare + n) ≤ vec_capacity p.events) (sym bare) room;
     }
 
 -- what a drain puts into what was cleared
 pub drain_brings : (size askers : ℕ) (history : List Event) (s : DeskState) (r : RequestsState) (cleared a b : Arrived) → cleared ≡ nothing_arrived
     → a ≡ record cleared { works = cleared.works ++ s.owed }
-    → b ≡ record a { requests = a.requests ++ map pair_of (unfetched_of r); left = left_of r } → Stands size (facts_of history) s → AskersStand askers (request_facts history) r → b ≡ brought askers history
+    → b ≡ record a { requests = a.requests ++ map pair_of (unfetched_of r); left = left_of r } → Stands size (facts_of history) s
+    → AskersStand askers (request_facts history) r → b ≡ brought askers history
 drain_brings size askers history s r cleared a b clear owed rest st asked =
     let works : b.works ≡ owed_pairs history =
     ap (λ (x : Arrived). x.works) rest ∙ (ap (λ (x : Arrived). x.works) owed ∙ (ap (λ (x : Arrived). x.works ++ s.owed) clear ∙ st.owed)) in
@@ -258,4 +280,5 @@ some_bit o = cond (is_some o) 1 0
 pub refused_now : (size : ℕ) (history : List Event) (s : DeskState) (o : Option ℕ) → Stands size (facts_of history) s → o ≡ answer_of s
     → (o ≡ None) ↔ (free_threads size history ≡ 0)
 refused_now size history s o st e =
-    subst (λ x. (x ≡ None) ↔ (free_threads size history ≡ 0)) (sym e) (subst (λ n. (answer_of s ≡ None) ↔ (n ≡ 0)) (sym (free_is size (facts_of history) s st)) (refused_is s))
+    subst (λ x. (x ≡ None) ↔ (free_threads size history ≡ 0)) (sym e)
+    (subst (λ n. (answer_of s ≡ None) ↔ (n ≡ 0)) (sym (free_is size (facts_of history) s st)) (refused_is s))

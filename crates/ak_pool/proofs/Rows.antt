@@ -32,7 +32,9 @@ pub record IsHelperOf (size : ℕ) (f : Facts) (t : ℕ) (helper : ℕ) : Type 0
 pub helper_of : (size : ℕ) (f : Facts) (s : DeskState) (t helper : ℕ) → Stands size f s
     → held_on f.reserved f.ended f.finished f.handed t ≡ reserved_list t (Some helper) → IsHelperOf size f t helper
 helper_of size f s t helper st held =
-    let one = each_one (IsGrantedOnce size f.helpers f.reserved) (λ (r : Reserved). r.thread == t && not (over_in f.ended f.finished f.handed r.helper)) f.reserved [] (record { helper = helper; thread = t }) st.granted_once held in
+    let one = each_one (IsGrantedOnce size f.helpers f.reserved) (λ (r : Reserved). r.thread == t
+    && not (over_in f.ended f.finished f.handed r.helper)) f.reserved [] (record { helper = helper; thread = t }) st.granted_once
+    held in
     let two = and_both (t == t) (over_in f.ended f.finished f.handed helper) one.1 in
     record { thread = one.0.once; known = one.0.known; exists = one.0.exists; goes_on = two.1 }
 

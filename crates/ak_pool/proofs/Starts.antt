@@ -33,18 +33,22 @@ rebuilt w task o same e =
 pub unfinished : (begun : List Begun) (finished : List (ℕ × Outcome)) (id : ℕ) → Each (λ x. has_begun begun x.0 ≡ true) finished
     → has_begun begun id ≡ false → has_finished finished id ≡ false
 unfinished begun finished id each e =
-    none_any (λ (x : ℕ × Outcome). x.0 == id) finished (each_map (λ x. has_begun begun x.0 ≡ true) (λ x. (x.0 == id) ≡ false) (λ x k. ne_eqb x.0 id (λ same. absurd (cc (k, e, ap (has_begun begun) same)))) finished each)
+    none_any (λ (x : ℕ × Outcome). x.0 == id) finished
+    (each_map (λ x. has_begun begun x.0 ≡ true) (λ x. (x.0 == id) ≡ false)
+    (λ x k. ne_eqb x.0 id (λ same. absurd (cc (k, e, ap (has_begun begun) same)))) finished each)
 
 running_here : (begun : List Begun) (finished : List (ℕ × Outcome)) (t : ℕ) (task : Task) → running_on begun finished t ≡ []
     → has_finished finished task.id ≡ false → running_on (begun ++ record { thread = t; id = task.id } ∷ []) finished t ≡ begun_list t (Some task)
 running_here begun finished t task none e =
-    filter_last (λ (b : Begun). b.thread == t && not (has_finished finished b.id)) begun (record { thread = t; id = task.id }) (ap (λ c. (t == t) && not c) e ∙ ap (λ c. c && true) (eq-eqb t t refl))
+    filter_last (λ (b : Begun). b.thread == t && not (has_finished finished b.id)) begun (record { thread = t; id = task.id })
+    (ap (λ c. (t == t) && not c) e ∙ ap (λ c. c && true) (eq-eqb t t refl))
     ∙ ap (λ bs. bs ++ begun_list t (Some task)) none
 
 running_other : (begun : List Begun) (finished : List (ℕ × Outcome)) (u : ℕ) (b : Begun) → (u ≡ b.thread → ⊥)
     → running_on (begun ++ b ∷ []) finished u ≡ running_on begun finished u
 running_other begun finished u b ne =
-    filter_kept (λ (x : Begun). x.thread == u && not (has_finished finished x.id)) begun b (ap (λ c. c && not (has_finished finished b.id)) (ne_eqb b.thread u (λ e. ne (sym e))))
+    filter_kept (λ (x : Begun). x.thread == u && not (has_finished finished x.id)) begun b
+    (ap (λ c. c && not (has_finished finished b.id)) (ne_eqb b.thread u (λ e. ne (sym e))))
 
 queue_begun : (handed : List Handed) (begun : List Begun) (ended : List ℕ) (work : Handed) (b : Begun) (o : Option ℕ) (x : ThreadState)
     → AreNumbered 0 handed → work_in handed b.id ≡ Some work → ((helper : ℕ) → o ≡ Some helper → is_that helper work.helper ≡ false)
@@ -70,12 +74,21 @@ begun_begun : (f : Facts) (work : Handed) (b : Begun) → work_in f.handed b.id 
     → Each (IsBegunOnce f.handed f.reserved (f.begun ++ b ∷ [])) (f.begun ++ b ∷ [])
 begun_begun f work b found on e h =
     each_last (IsBegunOnce f.handed f.reserved (f.begun ++ b ∷ [])) f.begun b
-    (each_map (IsBegunOnce f.handed f.reserved f.begun) (IsBegunOnce f.handed f.reserved (f.begun ++ b ∷ [])) (λ c k. record { work = k.work; is = k.is; on = k.on; once = find_more (λ (x : Begun). x.id == c.id) f.begun (b ∷ []) c k.once }) f.begun h)
-    (record { work = work; is = found; on = on; once = find_last (λ (x : Begun). x.id == b.id) f.begun b (none_found (λ (x : Begun). x.id == b.id) f.begun e) (eq-eqb b.id b.id refl) })
+    (each_map (IsBegunOnce f.handed f.reserved f.begun) (IsBegunOnce f.handed f.reserved (f.begun ++ b ∷ []))
+    (λ c k. record { work = k.work; is = k.is; on = k.on; once = find_more (λ (x : Begun). x.id == c.id) f.begun (b ∷ []) c k.once })
+    f.begun h)
+    (record {
+      work = work;
+      is = found;
+      on = on;
+      once =
+          find_last (λ (x : Begun). x.id == b.id) f.begun b (none_found (λ (x : Begun). x.id == b.id) f.begun e) (eq-eqb b.id b.id refl);
+    })
 
 first_begun : (f : Facts) (b : Begun) → Each (λ x. has_begun f.begun x.0 ≡ true) f.finished → Each (λ x. has_begun (f.begun ++ b ∷ []) x.0 ≡ true) f.finished
 first_begun f b h =
-    each_map (λ x. has_begun f.begun x.0 ≡ true) (λ x. has_begun (f.begun ++ b ∷ []) x.0 ≡ true) (λ x k. any_more (λ (y : Begun). y.id == x.0) f.begun (b ∷ []) k) f.finished h
+    each_map (λ x. has_begun f.begun x.0 ≡ true) (λ x. has_begun (f.begun ++ b ∷ []) x.0 ≡ true)
+    (λ x k. any_more (λ (y : Begun). y.id == x.0) f.begun (b ∷ []) k) f.finished h
 
 pub or_not : (a : Bool) → (a || (false || false)) ≡ a
 or_not true = refl
@@ -106,8 +119,11 @@ general_more : (f : Facts) (work : Handed) (b : Begun) → AreNumbered 0 f.hande
 general_more f work b num found of e g =
     let id : work.id ≡ b.id = found_id b.id work f.handed found in
     count_one (general_test f.begun f.finished) (general_test (f.begun ++ b ∷ []) f.finished) 0 b.id work f.handed (numbered_grow 0 f.handed num)
-    (each_all (λ x. (x.id ≡ b.id → ⊥) → general_test f.begun f.finished x ≡ general_test (f.begun ++ b ∷ []) f.finished x) (λ x ne. ap (λ c. is_general x && c && not (has_finished f.finished x.id)) (sym (begun_apart f.begun b x.id (λ s. ne (sym s))))) f.handed)
-    (ap (λ c. is_general work && c && not (has_finished f.finished work.id)) (ap (has_begun f.begun) id ∙ e) ∙ test_false (is_general work) (not (has_finished f.finished work.id)))
+    (each_all (λ x. (x.id ≡ b.id → ⊥) → general_test f.begun f.finished x ≡ general_test (f.begun ++ b ∷ []) f.finished x)
+    (λ x ne. ap (λ c. is_general x && c && not (has_finished f.finished x.id)) (sym (begun_apart f.begun b x.id (λ s. ne (sym s)))))
+    f.handed)
+    (ap (λ c. is_general work && c && not (has_finished f.finished work.id)) (ap (has_begun f.begun) id ∙ e)
+    ∙ test_false (is_general work) (not (has_finished f.finished work.id)))
     (ap (λ c. c && has_begun (f.begun ++ b ∷ []) work.id && not (has_finished f.finished work.id)) of
     ∙ ap (λ c. true && c && not (has_finished f.finished work.id)) (begun_now f.begun b work.id (sym id))
     ∙ ap (λ c. true && true && not c) (ap (has_finished f.finished) id ∙ g))
@@ -125,7 +141,9 @@ general_kept : (f : Facts) (work : Handed) (b : Begun) → AreNumbered 0 f.hande
     → general_in f.handed (f.begun ++ b ∷ []) f.finished ≡ general_in f.handed f.begun f.finished
 general_kept f work b num found of =
     count_same (general_test (f.begun ++ b ∷ []) f.finished) (general_test f.begun f.finished) f.handed
-    (each_map (λ x. x.id ≡ b.id → x ≡ work) (λ x. general_test (f.begun ++ b ∷ []) f.finished x ≡ general_test f.begun f.finished x) (λ x same. general_same_at f work b x of same (cases_eq x.id b.id)) f.handed (only 0 b.id work f.handed (numbered_grow 0 f.handed num) found))
+    (each_map (λ x. x.id ≡ b.id → x ≡ work) (λ x. general_test (f.begun ++ b ∷ []) f.finished x ≡ general_test f.begun f.finished x)
+    (λ x same. general_same_at f work b x of same (cases_eq x.id b.id)) f.handed
+    (only 0 b.id work f.handed (numbered_grow 0 f.handed num) found))
 
 general_now : (ths : List ThreadState) (t : ℕ) (task : Task) → t < length ths → (get_or ths t idle_thread).running ≡ None
     → (get_or ths t idle_thread).helper ≡ None
@@ -171,7 +189,8 @@ stands_general_begun size f s t task st exists idle free first =
       waiting = sym (unbegun_front f.handed f.begun None task (rest_of s.waiting) b st.numbered front refl);
       owed = st.owed;
       each_thread = λ u below. put_each (ThreadStands f.handed (f.begun ++ b ∷ []) f.finished f.reserved f.ended) s.threads t y lt here
-          (λ v vlt ne. thread_begun f front.work b v (thread_at s v) st.numbered front.found ne (λ h is. ap (is_that h) for_none) (st.each_thread v (omega (arith, vlt, st.size))))
+          (λ v vlt ne. thread_begun f front.work b v (thread_at s v) st.numbered front.found ne (λ h is. ap (is_that h) for_none)
+          (st.each_thread v (omega (arith, vlt, st.size))))
           u (omega (arith, below, st.size));
       general = general_more f front.work b st.numbered front.found front.of front.unbegun open_yet ∙ ap (λ n. n + 1) st.general
           ∙ general_now s.threads t task lt idle free;
@@ -226,7 +245,10 @@ stands_own_begun size f s t helper task st exists idle is first =
       waiting = st.waiting ∙ sym (unbegun_other f.handed f.begun None front.work b st.numbered front.found (ap is_none for_helper));
       owed = st.owed;
       each_thread = λ u below. put_each (ThreadStands f.handed (f.begun ++ b ∷ []) f.finished f.reserved f.ended) s.threads t y lt here
-          (λ v vlt ne. thread_begun f front.work b v (thread_at s v) st.numbered front.found ne (λ h h_is. ap (is_that h) for_helper ∙ false_from_ne_true (helper == h) (λ e. ne (one_thread size f s v t helper st (omega (arith, vlt, st.size)) (h_is ∙ ap Some (sym (eqb-true helper h e))) of.thread))) (st.each_thread v (omega (arith, vlt, st.size))))
+          (λ v vlt ne. thread_begun f front.work b v (thread_at s v) st.numbered front.found ne
+          (λ h h_is. ap (is_that h) for_helper ∙ false_from_ne_true (helper == h)
+          (λ e. ne (one_thread size f s v t helper st (omega (arith, vlt, st.size))
+          (h_is ∙ ap Some (sym (eqb-true helper h e))) of.thread))) (st.each_thread v (omega (arith, vlt, st.size))))
           u (omega (arith, below, st.size));
       general = general_kept f front.work b st.numbered front.found (ap is_none for_helper) ∙ st.general ∙ sym (general_own s.threads t task helper lt is idle);
     }

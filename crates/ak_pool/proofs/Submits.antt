@@ -44,8 +44,11 @@ held_handed : (handed : List Handed) (finished : List (ℕ × Outcome)) (reserve
     → ((helper : ℕ) → is_for helper w ≡ true → is_among ended helper ≡ false)
     → held_on reserved ended finished (handed ++ w ∷ []) t ≡ held_on reserved ended finished handed t
 held_handed handed finished reserved ended w t f =
-    filter_same (λ r. r.thread == t && not (over_in ended finished (handed ++ w ∷ []) r.helper)) (λ r. r.thread == t && not (over_in ended finished handed r.helper)) reserved
-    (each_all (λ r. (r.thread == t && not (over_in ended finished (handed ++ w ∷ []) r.helper)) ≡ (r.thread == t && not (over_in ended finished handed r.helper))) (λ r. ap (λ b. r.thread == t && not b) (over_at ended finished handed w r.helper (is_for r.helper w) refl (f r.helper))) reserved)
+    filter_same (λ r. r.thread == t && not (over_in ended finished (handed ++ w ∷ []) r.helper))
+    (λ r. r.thread == t && not (over_in ended finished handed r.helper)) reserved
+    (each_all (λ r. (r.thread == t && not (over_in ended finished (handed ++ w ∷ []) r.helper))
+    ≡ (r.thread == t && not (over_in ended finished handed r.helper)))
+    (λ r. ap (λ b. r.thread == t && not b) (over_at ended finished handed w r.helper (is_for r.helper w) refl (f r.helper))) reserved)
 
 thread_handed : (f : Facts) (w : Handed) (t : ℕ) (x : ThreadState) → ((helper : ℕ) → is_for helper w ≡ true → is_among f.ended helper ≡ false)
     → ((helper : ℕ) → x.helper ≡ Some helper → is_for helper w ≡ false) → ThreadStands f.handed f.begun f.finished f.reserved f.ended t x
@@ -61,7 +64,14 @@ thread_handed f w t x live other row =
 begun_handed : (f : Facts) (w : Handed) → Each (IsBegunOnce f.handed f.reserved f.begun) f.begun
     → Each (IsBegunOnce (f.handed ++ w ∷ []) f.reserved f.begun) f.begun
 begun_handed f w h =
-    each_map (IsBegunOnce f.handed f.reserved f.begun) (IsBegunOnce (f.handed ++ w ∷ []) f.reserved f.begun) (λ b k. record { work = k.work; is = find_more (λ (x : Handed). x.id == b.id) f.handed (w ∷ []) k.work k.is; on = k.on; once = k.once }) f.begun h
+    each_map (IsBegunOnce f.handed f.reserved f.begun) (IsBegunOnce (f.handed ++ w ∷ []) f.reserved f.begun)
+    (λ b k. record {
+      work = k.work;
+      is = find_more (λ (x : Handed). x.id == b.id) f.handed (w ∷ []) k.work k.is;
+      on = k.on;
+      once =
+          k.once;
+    }) f.begun h
 
 and_false : (b c : Bool) → (b && false && c) ≡ false
 and_false true c = refl
@@ -71,7 +81,8 @@ general_handed : (f : Facts) (w : Handed) → has_begun f.begun w.id ≡ false
     → general_in (f.handed ++ w ∷ []) f.begun f.finished ≡ general_in f.handed f.begun f.finished
 general_handed f w e =
     sum_by_push (λ v. one_if (is_general v && has_begun f.begun v.id && not (has_finished f.finished v.id))) f.handed w
-    ∙ ap (λ b. general_in f.handed f.begun f.finished + one_if b) (ap (λ b. is_general w && b && not (has_finished f.finished w.id)) e ∙ and_false (is_general w) (not (has_finished f.finished w.id)))
+    ∙ ap (λ b. general_in f.handed f.begun f.finished + one_if b) (ap (λ b. is_general w && b && not (has_finished f.finished w.id)) e
+    ∙ and_false (is_general w) (not (has_finished f.finished w.id)))
     ∙ add-zero (general_in f.handed f.begun f.finished)
 
 -- a general work
@@ -121,8 +132,10 @@ stands_helped size f s work helper p st on =
     let lt : p < length s.threads = omega (arith, on.exists, st.size) in
     let row = st.each_thread p on.exists in
     let live : (h : ℕ) → is_for h w ≡ true → is_among f.ended h ≡ false = λ h e. ap (is_among f.ended) (sym (is_for_same h helper e)) ∙ on.not_ended in
-    let new_queue : IsQueueFor (f.handed ++ w ∷ []) f.begun f.ended (Some helper) y =
-    (ap (λ q. q ++ next_task work s ∷ []) on.queue ∙ sym (unbegun_last f.handed f.begun (Some helper) w fresh (eq_same helper)), on.goes_on ∙ sym on.not_ended) in
+    let new_queue : IsQueueFor (f.handed ++ w ∷ []) f.begun f.ended (Some helper) y = (
+      ap (λ q. q ++ next_task work s ∷ []) on.queue ∙ sym (unbegun_last f.handed f.begun (Some helper) w fresh (eq_same helper)),
+      on.goes_on ∙ sym on.not_ended,
+    ) in
     let here : ThreadStands (f.handed ++ w ∷ []) f.begun f.finished f.reserved f.ended p y = record {
       running = row.running;
       task = task_more f.handed w x.helper x.running row.task;
@@ -146,7 +159,10 @@ stands_helped size f s work helper p st on =
       waiting = st.waiting ∙ sym (unbegun_kept f.handed f.begun None w refl);
       owed = st.owed;
       each_thread = λ t below. put_each (ThreadStands (f.handed ++ w ∷ []) f.begun f.finished f.reserved f.ended) s.threads p y lt here
-          (λ u ult ne. thread_handed f w u (thread_at s u) live (λ h is. false_from_ne_true (is_for h w) (λ e. ne (one_thread size f s u p helper st (omega (arith, ult, st.size)) (is ∙ ap Some (sym (is_for_same h helper e))) on.of.thread))) (st.each_thread u (omega (arith, ult, st.size))))
+          (λ u ult ne. thread_handed f w u (thread_at s u) live
+          (λ h is. false_from_ne_true (is_for h w)
+          (λ e. ne (one_thread size f s u p helper st (omega (arith, ult, st.size))
+          (is ∙ ap Some (sym (is_for_same h helper e))) on.of.thread))) (st.each_thread u (omega (arith, ult, st.size))))
           t (omega (arith, below, st.size));
       general = general_handed f w fresh ∙ st.general ∙ sym (same_general s.threads p (next_task work s) lt);
     }

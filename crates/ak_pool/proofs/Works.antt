@@ -20,7 +20,9 @@ waits begun o w = is_of o w && not (has_begun begun w.id)
 pub fresh_unbegun : (handed : List Handed) (reserved : List Reserved) (begun : List Begun) (id : ℕ) → AreNumbered 0 handed → length handed ≤ id
     → Each (IsBegunOnce handed reserved begun) begun → has_begun begun id ≡ false
 fresh_unbegun handed reserved begun id h le each =
-    none_any (λ (b : Begun). b.id == id) begun (each_map (IsBegunOnce handed reserved begun) (λ b. (b.id == id) ≡ false) (λ b k. ne_eqb b.id id (λ e. absurd (omega (arith, e, le, found_below b.id k.work handed h k.is)))) begun each)
+    none_any (λ (b : Begun). b.id == id) begun
+    (each_map (IsBegunOnce handed reserved begun) (λ b. (b.id == id) ≡ false)
+    (λ b k. ne_eqb b.id id (λ e. absurd (omega (arith, e, le, found_below b.id k.work handed h k.is)))) begun each)
 
 and_true : (b : Bool) → (b && true) ≡ b
 and_true true = refl
@@ -117,7 +119,10 @@ keeps_at true false false f = refl
 pub unbegun_other : (handed : List Handed) (begun : List Begun) (o : Option ℕ) (work : Handed) (b : Begun) → AreNumbered 0 handed
     → work_in handed b.id ≡ Some work → is_of o work ≡ false → unbegun handed (begun ++ b ∷ []) o ≡ unbegun handed begun o
 unbegun_other handed begun o work b h found other =
-    ap (map task_of) (filter_same (waits (begun ++ b ∷ []) o) (waits begun o) handed (each_map (λ x. x.id ≡ b.id → x ≡ work) (λ x. waits (begun ++ b ∷ []) o x ≡ waits begun o x) (λ x same. ap (λ c. is_of o x && not c) (begun_more begun b x.id) ∙ keeps_at (is_of o x) (has_begun begun x.id) (b.id == x.id) (λ e. ap (is_of o) (same (sym (eqb-true b.id x.id e))) ∙ other)) handed (only 0 b.id work handed (numbered_grow 0 handed h) found)))
+    ap (map task_of) (filter_same (waits (begun ++ b ∷ []) o) (waits begun o) handed
+    (each_map (λ x. x.id ≡ b.id → x ≡ work) (λ x. waits (begun ++ b ∷ []) o x ≡ waits begun o x)
+    (λ x same. ap (λ c. is_of o x && not c) (begun_more begun b x.id) ∙ keeps_at (is_of o x) (has_begun begun x.id) (b.id == x.id)
+    (λ e. ap (is_of o) (same (sym (eqb-true b.id x.id e))) ∙ other)) handed (only 0 b.id work handed (numbered_grow 0 handed h) found)))
 
 pub some_is : (h : ℕ) (o : Option ℕ) → is_that h o ≡ true → o ≡ Some h
 some_is h None e = absurd (cc)
@@ -150,8 +155,18 @@ count_at : (p q : Handed → Bool) (b : Bool) (n id : ℕ) (w w0 : Handed) (ws :
     → cond b (Some w) (find (λ (x : Handed). x.id == id) ws) ≡ Some w0 → count_by q (w ∷ ws) ≡ count_by p (w ∷ ws) + 1
 count_at p q true n id w w0 ws e h here each was now f k =
     let same : w ≡ w0 = some_same w w0 k in
-    let rest = count_same p q ws (each_map (λ x. (w.id + 1 ≤ x.id) × ((x.id ≡ id → ⊥) → p x ≡ q x)) (λ x. p x ≡ q x) (λ x m. m.1 (λ s. absurd (omega (arith, m.0, s, eqb-true w.id id e)))) ws (each_both (λ x. w.id + 1 ≤ x.id) (λ x. (x.id ≡ id → ⊥) → p x ≡ q x) ws (grow_each (w.id + 1) ws h) each)) in
-    omega (arith, sum_by-cons (λ x. cond (q x) 1 0) w ws, sum_by-cons (λ x. cond (p x) 1 0) w ws, rest, ap one_if (ap q same ∙ now), ap one_if (ap p same ∙ was))
+    let rest = count_same p q ws
+    (each_map (λ x. (w.id + 1 ≤ x.id) × ((x.id ≡ id → ⊥) → p x ≡ q x)) (λ x. p x ≡ q x)
+    (λ x m. m.1 (λ s. absurd (omega (arith, m.0, s, eqb-true w.id id e)))) ws
+    (each_both (λ x. w.id + 1 ≤ x.id) (λ x. (x.id ≡ id → ⊥) → p x ≡ q x) ws (grow_each (w.id + 1) ws h) each)) in
+    omega (
+      arith,
+      sum_by-cons (λ x. cond (q x) 1 0) w ws,
+      sum_by-cons (λ x. cond (p x) 1 0) w ws,
+      rest,
+      ap one_if (ap q same ∙ now),
+      ap one_if (ap p same ∙ was),
+    )
 count_at p q false n id w w0 ws e h here each was now f k =
     let agrees = here (λ s. absurd (cc (e, eq-eqb w.id id s))) in
     omega (arith, sum_by-cons (λ x. cond (q x) 1 0) w ws, sum_by-cons (λ x. cond (p x) 1 0) w ws, f k, ap one_if agrees)

@@ -38,7 +38,8 @@ IsQueueFor handed begun ended None t = (t.queue ≡ []) × (t.ended ≡ false)
 IsQueueFor handed begun ended (Some helper) t =
     (t.queue ≡ unbegun handed begun (Some helper)) × (t.ended ≡ is_among ended helper)
 
-pub record ThreadStands (handed : List Handed) (begun : List Begun) (finished : List (ℕ × Outcome)) (reserved : List Reserved) (ended : List ℕ) (place : ℕ) (t : ThreadState) : Type 0 where
+pub record ThreadStands (handed : List Handed) (begun : List Begun) (finished : List (ℕ × Outcome)) (reserved : List Reserved)
+    (ended : List ℕ) (place : ℕ) (t : ThreadState) : Type 0 where
   pub running : running_on begun finished place ≡ begun_list place t.running
   pub task : IsTaskFor handed t.helper t.running
   pub held : held_on reserved ended finished handed place ≡ reserved_list place t.helper

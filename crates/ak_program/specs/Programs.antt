@@ -189,7 +189,8 @@ pub record StatementIsSound (procs : List NumProc) (kinds : List Kind) (statemen
 -- each line uses what the lines before it bind
 abbrev pub LinesAreSound : List NumProc → List Kind → List NumStatement → Type 0
 LinesAreSound procs kinds [] = Unit {0}
-LinesAreSound procs kinds (statement ∷ rest) = StatementIsSound procs kinds statement × LinesAreSound procs (kinds ++ map (λ param. param.kind) (num_binds statement.stmt)) rest
+LinesAreSound procs kinds (statement ∷ rest) = StatementIsSound procs kinds statement
+    × LinesAreSound procs (kinds ++ map (λ param. param.kind) (num_binds statement.stmt)) rest
 
 -- a procedure among those of the program
 pub record ProcIsSound (procs : List NumProc) (proc : NumProc) : Type 0 where

@@ -57,17 +57,24 @@ is_not_of false job e = left_out (not job.ctx.low) (job ∷ []) [] (ap not e)
 abbrev next_job : {F : Type 0} → Ctx → F → Queues F → Job F
 next_job ctx frame q = record { no = q.next; ctx = ctx; frame = frame }
 
-with_low : {F : Type 0} (ctx : Ctx) (frame : F) (q : Queues F) → ctx.low ≡ true → with_job ctx frame q ≡ record q { low = q.low ++ next_job ctx frame q ∷ []; next = q.next + 1 }
+with_low : {F : Type 0} (ctx : Ctx) (frame : F) (q : Queues F) → ctx.low ≡ true
+    → with_job ctx frame q ≡ record q { low = q.low ++ next_job ctx frame q ∷ []; next = q.next + 1 }
 with_low ctx frame q e = taken ctx.low _ _ e
 
-with_normal : {F : Type 0} (ctx : Ctx) (frame : F) (q : Queues F) → ctx.low ≡ false → with_job ctx frame q ≡ record q { normal = q.normal ++ next_job ctx frame q ∷ []; next = q.next + 1 }
+with_normal : {F : Type 0} (ctx : Ctx) (frame : F) (q : Queues F) → ctx.low ≡ false
+    → with_job ctx frame q ≡ record q { normal = q.normal ++ next_job ctx frame q ∷ []; next = q.next + 1 }
 with_normal ctx frame q e = left_out ctx.low _ _ e
 
 push_sorted : {F : Type 0} (b : Bool) (ctx : Ctx) (frame : F) (q : Queues F) → ctx.low ≡ b → AreSorted q → AreSorted (with_job ctx frame q)
 push_sorted {F} true ctx frame q e s =
-    subst (λ (r : Queues F). AreSorted r) (sym (with_low ctx frame q e)) (record { normal = s.normal; low = are_of-last true q.low (next_job ctx frame q) s.low e })
+    subst (λ (r : Queues F). AreSorted r) (sym (with_low ctx frame q e)) (record {
+      normal = s.normal;
+      low =
+          are_of-last true q.low (next_job ctx frame q) s.low e;
+    })
 push_sorted {F} false ctx frame q e s =
-    subst (λ (r : Queues F). AreSorted r) (sym (with_normal ctx frame q e)) (record { normal = are_of-last false q.normal (next_job ctx frame q) s.normal e; low = s.low })
+    subst (λ (r : Queues F). AreSorted r) (sym (with_normal ctx frame q e))
+    (record { normal = are_of-last false q.normal (next_job ctx frame q) s.normal e; low = s.low })
 
 pick_sorted : {F : Type 0} (a b : Option (Job F)) (q : Queues F) → AreSorted q → AreSorted (picked_by a b q)
 pick_sorted (Some x) b q s = record { normal = are_of-rest false q.normal s.normal; low = s.low }
@@ -79,7 +86,8 @@ call_sorted (Push ctx frame) q s = push_sorted ctx.low ctx frame q refl s
 call_sorted Pick q s = pick_sorted (first_under q.normal_ran q.limit q.normal) (first_under q.low_ran q.limit q.low) q s
 call_sorted Reset q s = record { normal = s.normal; low = s.low }
 
-push_step : {F : Type 0} (low b : Bool) (ctx : Ctx) (frame : F) (q : Queues F) → ctx.low ≡ b → waiting low (with_job ctx frame q) ≡ waiting low q ++ pushed low (Push ctx frame) q
+push_step : {F : Type 0} (low b : Bool) (ctx : Ctx) (frame : F) (q : Queues F) → ctx.low ≡ b
+    → waiting low (with_job ctx frame q) ≡ waiting low q ++ pushed low (Push ctx frame) q
 push_step true true ctx frame q e =
     ap (waiting true) (with_low ctx frame q e) ∙ ap (λ r. q.low ++ r) (sym (is_of true (next_job ctx frame q) e))
 push_step true false ctx frame q e =
@@ -89,7 +97,8 @@ push_step false true ctx frame q e =
 push_step false false ctx frame q e =
     ap (waiting false) (with_normal ctx frame q e) ∙ ap (λ r. q.normal ++ r) (sym (is_of false (next_job ctx frame q) e))
 
-pick_step : {F : Type 0} (low : Bool) (a b : Option (Job F)) (q : Queues F) → IsFront a false q.normal → IsFront b true q.low → picked_of low (pick_or a b) ++ waiting low (picked_by a b q) ≡ waiting low q
+pick_step : {F : Type 0} (low : Bool) (a b : Option (Job F)) (q : Queues F) → IsFront a false q.normal → IsFront b true q.low
+    → picked_of low (pick_or a b) ++ waiting low (picked_by a b q) ≡ waiting low q
 pick_step true (Some x) b q f g = ap (λ r. r ++ q.low) (is_not_of true x f.0)
 pick_step false (Some x) b q f g = ap (λ r. r ++ rest_of q.normal) (is_of false x f.0) ∙ sym f.1
 pick_step true None (Some y) q f g = ap (λ r. r ++ rest_of q.low) (is_of true y g.0) ∙ sym g.1
@@ -98,15 +107,18 @@ pick_step true None None q f g = refl
 pick_step false None None q f g = refl
 
 -- what a call picks stands before what waits behind it, and what it pushes behind what waited before it
-call_step : {F : Type 0} (low : Bool) (call : Call F) (q : Queues F) → AreSorted q → picked low call q ++ waiting low (called call q) ≡ waiting low q ++ pushed low call q
+call_step : {F : Type 0} (low : Bool) (call : Call F) (q : Queues F) → AreSorted q
+    → picked low call q ++ waiting low (called call q) ≡ waiting low q ++ pushed low call q
 call_step low (Push ctx frame) q s = push_step low ctx.low ctx frame q refl
 call_step low Pick q s =
-    pick_step low (first_under q.normal_ran q.limit q.normal) (first_under q.low_ran q.limit q.low) q (is_front-first q.normal_ran q.limit false q.normal s.normal) (is_front-first q.low_ran q.limit true q.low s.low)
+    pick_step low (first_under q.normal_ran q.limit q.normal) (first_under q.low_ran q.limit q.low) q
+    (is_front-first q.normal_ran q.limit false q.normal s.normal) (is_front-first q.low_ran q.limit true q.low s.low)
     ∙ sym (append-nil (waiting low q))
 call_step true Reset q s = sym (append-nil q.low)
 call_step false Reset q s = sym (append-nil q.normal)
 
-in_order : {F : Type 0} (low : Bool) (calls : List (Call F)) (q : Queues F) → AreSorted q → picks low calls q ++ waiting low (after calls q) ≡ waiting low q ++ pushes low calls q
+in_order : {F : Type 0} (low : Bool) (calls : List (Call F)) (q : Queues F) → AreSorted q
+    → picks low calls q ++ waiting low (after calls q) ≡ waiting low q ++ pushes low calls q
 in_order low [] q s = sym (append-nil (waiting low q))
 in_order low (call ∷ calls) q s =
     append_assoc (picked low call q) (picks low calls (called call q)) (waiting low (after calls (called call q)))
@@ -119,7 +131,8 @@ nothing_waits : {F : Type 0} (low : Bool) (limit : ℕ) → waiting {F = F} low 
 nothing_waits true limit = refl
 nothing_waits false limit = refl
 
-pub pushes_in_order : {F : Type 0} (low : Bool) (limit : ℕ) (calls : List (Call F)) → picks low calls (no_jobs limit) ++ waiting low (after calls (no_jobs limit)) ≡ pushes low calls (no_jobs limit)
+pub pushes_in_order : {F : Type 0} (low : Bool) (limit : ℕ) (calls : List (Call F))
+    → picks low calls (no_jobs limit) ++ waiting low (after calls (no_jobs limit)) ≡ pushes low calls (no_jobs limit)
 pushes_in_order low limit calls =
     in_order low calls (no_jobs limit) (record { normal = tt; low = tt })
     ∙ ap (λ r. r ++ pushes low calls (no_jobs limit)) (nothing_waits low limit)
@@ -127,7 +140,9 @@ pushes_in_order low limit calls =
 nat_lt-zero : (n : ℕ) → 0 < n → nat_lt 0 n ≡ true
 nat_lt-zero n h = grind arith
 
-cycle_begins_by : {F : Type 0} (normal low : List (Job F)) (a b limit next : ℕ) → 0 < limit → has_pick (recounted (record { normal = normal; low = low; normal_ran = a; low_ran = b; limit = limit; next = next })) ≡ not (has_no_job (record { normal = normal; low = low; normal_ran = a; low_ran = b; limit = limit; next = next }))
+cycle_begins_by : {F : Type 0} (normal low : List (Job F)) (a b limit next : ℕ) → 0 < limit
+    → has_pick (recounted (record { normal = normal; low = low; normal_ran = a; low_ran = b; limit = limit; next = next }))
+    ≡ not (has_no_job (record { normal = normal; low = low; normal_ran = a; low_ran = b; limit = limit; next = next }))
 cycle_begins_by [] [] a b limit next h = refl
 cycle_begins_by (x ∷ xs) low a b limit next h = rw (nat_lt-zero limit h) refl
 cycle_begins_by [] (y ∷ ys) a b limit next h = rw (nat_lt-zero limit h) refl

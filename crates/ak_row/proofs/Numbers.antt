@@ -19,7 +19,8 @@ pub written_reads : (word : List ℕ) (z : ℤ) → written word ≡ Some z → 
 written_reads word z h = of (is_number word) refl h
   where
     of : (b : Bool) → is_number word ≡ b → cond b (Some (signed_value word)) None ≡ Some z → Writes word z
-    of true e h = let parts = both_true (list_all is_digit (without_minus word)) (nat_lt 0 (length (without_minus word))) e in let same : signed_value word ≡ z = cc in ((grind arith, parts.0), same)
+    of true e h = let parts = both_true (list_all is_digit (without_minus word)) (nat_lt 0 (length (without_minus word))) e in
+        let same : signed_value word ≡ z = cc in ((grind arith, parts.0), same)
     of false e h = cc
 
 pub written_is : (word : List ℕ) (z : ℤ) → Writes word z → written word ≡ Some z
@@ -36,7 +37,8 @@ pub within_reads : (least most : ℕ) (o : Option ℤ) (n : ℕ) → within leas
 within_reads least most (Some (pos m)) n h = of (nat_le least m && nat_le m most) refl h
   where
     of : (b : Bool) → (nat_le least m && nat_le m most) ≡ b → cond b (Some m) None ≡ Some n → (Some (pos m) ≡ Some (pos n)) × (least ≤ n) × (n ≤ most)
-    of true e h = let same : m ≡ n = cc in let range = between least most m e in (ap (λ (k : ℕ). Some (pos k)) same, rw (sym same) range.0, rw (sym same) range.1)
+    of true e h = let same : m ≡ n = cc in
+        let range = between least most m e in (ap (λ (k : ℕ). Some (pos k)) same, rw (sym same) range.0, rw (sym same) range.1)
     of false e h = cc
 within_reads least most (Some (negsuc m)) n h = cc
 within_reads least most None n h = cc
@@ -80,7 +82,8 @@ pub long_some : (word : List ℕ) (n : ℕ) → n < 2 ^ 64 → Writes word (pos 
 unfolding long_of
 long_some word n small w = within_is 0 (2 ^ 64 - 1) (written word) n (written_is word (pos n) w) (omega arith) (omega arith)
 
-pub long_is : (word : List ℕ) (o : Option ℕ) → MatchOption o ((n : ℕ) → n < 2 ^ 64 → Writes word (pos n) → ⊥) (λ n. Writes word (pos n)) → IfSome o (λ n. n < 2 ^ 64) → o ≡ long_of word
+pub long_is : (word : List ℕ) (o : Option ℕ) → MatchOption o ((n : ℕ) → n < 2 ^ 64 → Writes word (pos n) → ⊥) (λ n. Writes word (pos n))
+    → IfSome o (λ n. n < 2 ^ 64) → o ≡ long_of word
 long_is word None h fits = of (long_of word) refl
   where
     of : (o : Option ℕ) → long_of word ≡ o → None ≡ o
@@ -113,7 +116,8 @@ pub signed_some : (word : List ℕ) (z : ℤ) → FitsSigned w64 z → Writes wo
 unfolding signed_of
 signed_some word z fits w = ap signed_within (written_is word z w) ∙ rw (then_fits z fits) refl
 
-pub signed_is : (word : List ℕ) (o : Option ℤ) → MatchOption o ((z : ℤ) → FitsSigned w64 z → Writes word z → ⊥) (λ z. Writes word z) → IfSome o (λ z. FitsSigned w64 z) → o ≡ signed_of word
+pub signed_is : (word : List ℕ) (o : Option ℤ) → MatchOption o ((z : ℤ) → FitsSigned w64 z → Writes word z → ⊥) (λ z. Writes word z)
+    → IfSome o (λ z. FitsSigned w64 z) → o ≡ signed_of word
 signed_is word None h fits = of (signed_of word) refl
   where
     of : (o : Option ℤ) → signed_of word ≡ o → None ≡ o

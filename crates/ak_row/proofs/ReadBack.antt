@@ -47,7 +47,9 @@ not_empty [] h = absurd (omega arith)
 not_empty (byte ∷ word) h = grind arith
 
 decimal_plain : (n : ℕ) → n < 2 ^ 64 → is_plain_word (decimal n) ≡ true
-decimal_plain n small = and_true (is_not_empty (decimal n)) (list_all is_plain_byte (decimal n)) (not_empty (decimal n) (decimal_nonempty n small)) (all_weaker is_digit is_plain_byte digit_is_plain (decimal n) (digits_decimal own n small))
+decimal_plain n small =
+    and_true (is_not_empty (decimal n)) (list_all is_plain_byte (decimal n)) (not_empty (decimal n) (decimal_nonempty n small))
+    (all_weaker is_digit is_plain_byte digit_is_plain (decimal n) (digits_decimal own n small))
 
 signed_plain : (z : ℤ) → FitsSigned w64 z → is_plain_word (decimal_of z) ≡ true
 signed_plain (pos n) h = decimal_plain n (omega (arith, ints))
@@ -95,7 +97,8 @@ row_then number places rest h =
     let bytes = joined_bytes words (all_plain places h) in
     rw (line_then words rest, line_up_to (joined words) rest bytes, no_comment_in (joined words) bytes) refl
 
-pub rows_from : (number : ℕ) (rows : List (List Place)) → AllByRecursion IsPlainRow rows → AllZip IsRow rows (numbered number (lines_of (flat_map row_text rows)))
+pub rows_from : (number : ℕ) (rows : List (List Place)) → AllByRecursion IsPlainRow rows
+    → AllZip IsRow rows (numbered number (lines_of (flat_map row_text rows)))
 rows_from number [] h = tt
 rows_from number (places ∷ rows) h =
     subst (λ (lines : List TextLine). AllZip IsRow (places ∷ rows) lines) (sym (row_then number places (flat_map row_text rows) h.0.1))
@@ -118,7 +121,8 @@ all_count : (rows : List (List Place)) (lines : List TextLine) → AllByRecursio
 all_count [] [] plain h = refl
 all_count [] (line ∷ lines) plain h = absurd h
 all_count (places ∷ rows) [] plain h = absurd h
-all_count (places ∷ rows) (line ∷ lines) plain h = rw (row_counts places line plain.0.0 h.0) (ap (λ (ls : List TextLine). line ∷ ls) (all_count rows lines plain.1 h.1))
+all_count (places ∷ rows) (line ∷ lines) plain h =
+    rw (row_counts places line plain.0.0 h.0) (ap (λ (ls : List TextLine). line ∷ ls) (all_count rows lines plain.1 h.1))
 
 -- no line is skipped, so that the rows stand in lines 1, 2 and so on
 pub none_skipped : (rows : List (List Place)) → AllByRecursion IsPlainRow rows → counting_lines (flat_map row_text rows) ≡ text_lines (flat_map row_text rows)

@@ -19,7 +19,8 @@ and_true a b h k = rw (h, k) refl
 
 pub all_of_append : (p : ℕ → Bool) (xs ys : List ℕ) → list_all p xs ≡ true → list_all p ys ≡ true → list_all p (xs ++ ys) ≡ true
 all_of_append p [] ys h k = k
-all_of_append p (x ∷ xs) ys h k = let parts = both_true (p x) (list_all p xs) h in and_true (p x) (list_all p (xs ++ ys)) parts.0 (all_of_append p xs ys parts.1 k)
+all_of_append p (x ∷ xs) ys h k = let parts = both_true (p x) (list_all p xs) h in
+    and_true (p x) (list_all p (xs ++ ys)) parts.0 (all_of_append p xs ys parts.1 k)
 
 pub all_weaker : (p q : ℕ → Bool) → ((x : ℕ) → p x ≡ true → q x ≡ true) → (xs : List ℕ) → list_all p xs ≡ true → list_all q xs ≡ true
 all_weaker p q w [] h = refl
@@ -33,14 +34,16 @@ missed : (b : Bool) → not b ≡ true → b ≡ false
 missed true h = cc
 missed false h = refl
 
-pub piece_up_to : (ends : ℕ → Bool) (piece : List ℕ) (stop : ℕ) (rest : List ℕ) → list_all (misses ends) piece ≡ true → ends stop ≡ true → pieces ends (piece ++ stop ∷ rest) ≡ piece ∷ pieces ends rest
+pub piece_up_to : (ends : ℕ → Bool) (piece : List ℕ) (stop : ℕ) (rest : List ℕ) → list_all (misses ends) piece ≡ true → ends stop ≡ true
+    → pieces ends (piece ++ stop ∷ rest) ≡ piece ∷ pieces ends rest
 piece_up_to ends [] stop rest h e = rw e refl
 piece_up_to ends (byte ∷ piece) stop rest h e =
     let parts = both_true (misses ends byte) (list_all (misses ends) piece) h in
     let no : ends byte ≡ false = missed (ends byte) parts.0 in
     rw (no, piece_up_to ends piece stop rest parts.1 e) refl
 
-pub piece_alone : (ends : ℕ → Bool) (byte : ℕ) (piece : List ℕ) → list_all (misses ends) (byte ∷ piece) ≡ true → pieces ends (byte ∷ piece) ≡ (byte ∷ piece) ∷ []
+pub piece_alone : (ends : ℕ → Bool) (byte : ℕ) (piece : List ℕ) → list_all (misses ends) (byte ∷ piece) ≡ true
+    → pieces ends (byte ∷ piece) ≡ (byte ∷ piece) ∷ []
 piece_alone ends byte [] h =
     let parts = both_true (misses ends byte) true h in
     let no : ends byte ≡ false = missed (ends byte) parts.0 in
@@ -94,7 +97,9 @@ passed_over p (byte ∷ line) h =
     rw (parts.0) (omega (arith, passed_over p line parts.1))
 
 pub no_comment_in : (line : List ℕ) → list_all is_row_byte line ≡ true → before_first begins_comment line ≡ line
-no_comment_in line h = rw (passed_over begins_comment line (all_weaker is_row_byte (misses begins_comment) no_comment line h)) (take_all (length line) line (omega arith))
+no_comment_in line h =
+    rw (passed_over begins_comment line (all_weaker is_row_byte (misses begins_comment) no_comment line h))
+    (take_all (length line) line (omega arith))
 
 pub line_up_to : (line rest : List ℕ) → list_all is_row_byte line ≡ true → lines_of (line ++ 10 ∷ rest) ≡ line ∷ lines_of rest
 line_up_to line rest h =
@@ -117,19 +122,25 @@ pub joined_bytes : (words : List (List ℕ)) → AllPlain words → list_all is_
 joined_bytes [] h = refl
 joined_bytes (word ∷ []) h = all_weaker is_plain_byte is_row_byte plain_in_row word (plain_parts word h.0).1
 joined_bytes (word ∷ next ∷ words) h =
-    all_of_append is_row_byte word (32 ∷ joined (next ∷ words)) (all_weaker is_plain_byte is_row_byte plain_in_row word (plain_parts word h.0).1) (joined_bytes (next ∷ words) h.1)
+    all_of_append is_row_byte word (32 ∷ joined (next ∷ words))
+    (all_weaker is_plain_byte is_row_byte plain_in_row word (plain_parts word h.0).1) (joined_bytes (next ∷ words) h.1)
 
 one_word : (word : List ℕ) → is_plain_word word ≡ true → words_of word ≡ word ∷ []
 one_word [] h = cc
 one_word (byte ∷ word) h =
-    rw (piece_alone is_gap byte word (all_weaker is_plain_byte (misses is_gap) plain_no_gap (byte ∷ word) (plain_parts (byte ∷ word) h).1), (plain_parts (byte ∷ word) h).0) refl
+    rw (
+      piece_alone is_gap byte word
+          (all_weaker is_plain_byte (misses is_gap) plain_no_gap (byte ∷ word) (plain_parts (byte ∷ word) h).1),
+      (plain_parts (byte ∷ word) h).0,
+    ) refl
 
 pub joined_words : (words : List (List ℕ)) → AllPlain words → words_of (joined words) ≡ words
 joined_words [] h = refl
 joined_words (word ∷ []) h = one_word word h.0
 joined_words (word ∷ next ∷ words) h =
     let parts = plain_parts word h.0 in
-    let cut : pieces is_gap (word ++ 32 ∷ joined (next ∷ words)) ≡ word ∷ pieces is_gap (joined (next ∷ words)) = piece_up_to is_gap word 32 (joined (next ∷ words)) (all_weaker is_plain_byte (misses is_gap) plain_no_gap word parts.1) refl in
+    let cut : pieces is_gap (word ++ 32 ∷ joined (next ∷ words)) ≡ word ∷ pieces is_gap (joined (next ∷ words)) =
+    piece_up_to is_gap word 32 (joined (next ∷ words)) (all_weaker is_plain_byte (misses is_gap) plain_no_gap word parts.1) refl in
     rw (cut, parts.0) (ap (λ (ws : List (List ℕ)). word ∷ ws) (joined_words (next ∷ words) h.1))
 
 -- the text of a line in front of others

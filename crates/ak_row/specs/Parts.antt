@@ -95,7 +95,8 @@ kind_at = found_at kind_of
 
 -- an outcome: two words
 abbrev pub outcome_from : List ℕ → Part Outcome
-outcome_from word = if bytes_eq word (codes "good") then mapped Good signed_at else (if bytes_eq word (codes "bad") then mapped Bad signed_at else (λ words. None))
+outcome_from word = if bytes_eq word (codes "good") then mapped Good signed_at else
+    (if bytes_eq word (codes "bad") then mapped Bad signed_at else (λ words. None))
 
 unfoldable pub outcome_at : Part Outcome
 outcome_at words = word_at words >>= λ w. outcome_from w.0 w.1

@@ -11,15 +11,22 @@ ghost use Rattle.ak_row.specs.Plain.{row_text, IsPlainRow};
 
 /// What a word is read as is what it stands for, and it stands for one such thing at the most.
 pub fn words_are_exact()
-    ensures things { (word : List ℕ) (number : ℕ) → (thing_of word ≡ Some number) ↔ Stands (Thing number) word }
-    ensures longs { (word : List ℕ) (number : ℕ) → (long_of word ≡ Some number) ↔ Stands (LongNumber number) word }
-    ensures counts { (word : List ℕ) (number : ℕ) → (count_of word ≡ Some number) ↔ Stands (Counted number) word }
-    ensures signed { (word : List ℕ) (number : ℤ) → (signed_of word ≡ Some number) ↔ Stands (Signed number) word }
-    ensures kinds { (word : List ℕ) (kind : Kind) → (kind_of word ≡ Some kind) ↔ Stands (Exactly (kind_word kind)) word }
+    ensures things { (word : List ℕ) (number : ℕ) → (thing_of word ≡ Some number)
+        ↔ Stands (Thing number) word }
+    ensures longs { (word : List ℕ) (number : ℕ) → (long_of word ≡ Some number)
+        ↔ Stands (LongNumber number) word }
+    ensures counts { (word : List ℕ) (number : ℕ) → (count_of word ≡ Some number)
+        ↔ Stands (Counted number) word }
+    ensures signed { (word : List ℕ) (number : ℤ) → (signed_of word ≡ Some number)
+        ↔ Stands (Signed number) word }
+    ensures kinds { (word : List ℕ) (kind : Kind) → (kind_of word ≡ Some kind)
+        ↔ Stands (Exactly (kind_word kind)) word }
 {}
 
 /// Rows that were written are read back, and their lines are 1, 2 and so on, since none is skipped.
 pub fn rows_read_back()
-    ensures rows { (rows : List (List Place)) → AllByRecursion IsPlainRow rows → AllZip IsRow rows (counting_lines (flat_map row_text rows)) }
-    ensures lines { (rows : List (List Place)) → AllByRecursion IsPlainRow rows → counting_lines (flat_map row_text rows) ≡ text_lines (flat_map row_text rows) }
+    ensures rows { (rows : List (List Place)) → AllByRecursion IsPlainRow rows
+        → AllZip IsRow rows (counting_lines (flat_map row_text rows)) }
+    ensures lines { (rows : List (List Place)) → AllByRecursion IsPlainRow rows
+        → counting_lines (flat_map row_text rows) ≡ text_lines (flat_map row_text rows) }
 {}

@@ -140,7 +140,8 @@ renaming_leaves_other_things =
           line (stmt.Pipe 6 0) ∷ line (stmt.Pipe 7 0) ∷ line (stmt.Close 7) ∷ line (stmt.Throttle 8 1 false) ∷
           line (stmt.Throttle 9 1 false) ∷ line (stmt.Throttle 10 1 false) ∷ line (stmt.Enqueue 11 10 2 []) ∷
           line (stmt.Event 12 13 (Literal (pos 9))) ∷ line (stmt.Event 14 15 (Literal (pos 9))) ∷ line (stmt.Event 16 17 (Literal (pos 9))) ∷
-          line (stmt.Helper 18 19) ∷ line (stmt.Helper 20 21) ∷ line (stmt.Helper 22 23) ∷ line (stmt.Upon 2 4 ((Literal (pos 1)) ∷ (Local 3) ∷ (Local 6) ∷ (Local 9) ∷ (Local 14) ∷ (Local 20) ∷ [])) ∷
+          line (stmt.Helper 18 19) ∷ line (stmt.Helper 20 21) ∷ line (stmt.Helper 22 23)
+          ∷ line (stmt.Upon 2 4 ((Literal (pos 1)) ∷ (Local 3) ∷ (Local 6) ∷ (Local 9) ∷ (Local 14) ∷ (Local 20) ∷ [])) ∷
           line (stmt.Fill 0 (Literal (pos 0))) ∷ line (stmt.Sched 3 ((Local 1) ∷ [])) ∷ []) ∷
           proc (line (stmt.Ret (Local 1)) ∷ []) ∷
           proc (line (stmt.Never 0) ∷ line (stmt.Ret (Local 0)) ∷ []) ∷

@@ -12,7 +12,8 @@ pub ok_is : {A : Type 0} {a b : A} → good a ≡ good b → a ≡ b
 ok_is e = cc
 
 pub ok_pair : {A B : Type 0} {a c : A} {b d : B} → good_pair a b ≡ good_pair c d → (a ≡ c) × (b ≡ d)
-ok_pair {A} {B} {a} {c} {b} {d} e = let first : A × B = (a, b) in let second : A × B = (c, d) in let p : first ≡ second = ok_is e in (ap (λ (x : A × B). x.0) p, ap (λ (x : A × B). x.1) p)
+ok_pair {A} {B} {a} {c} {b} {d} e = let first : A × B = (a, b) in let second : A × B = (c, d) in
+    let p : first ≡ second = ok_is e in (ap (λ (x : A × B). x.0) p, ap (λ (x : A × B). x.1) p)
 
 -- what was found first, and then
 pub bind_ok : {A B : Type 0} (r : Result A Bad) (f : A → Result B Bad) (b : B) → (r >>= f) ≡ Ok b → (a : A) × (r ≡ Ok a) × (f a ≡ Ok b)

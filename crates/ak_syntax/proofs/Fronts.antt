@@ -57,7 +57,8 @@ abbrev pub front_of : Version → List Proc → Front
 front_of v procs = record { of_version = v; procs = procs; begun = None }
 
 head_outcome : (v : Version) (procs : List Proc) (name : List ℕ) (line : ℕ) (params : List Param) (faulty : Bool)
-    → Outcome (front_of v procs) (Head name line params) faulty (head_added (front_of v procs) (record { name = name; line = line; params = params; body = [] }))
+    → Outcome (front_of v procs) (Head name line params) faulty
+    (head_added (front_of v procs) (record { name = name; line = line; params = params; body = [] }))
 head_outcome v procs name line params faulty = of (nat_lt 8 (length params)) refl (nat_le 4096 (length procs)) refl
   where
     of : (a : Bool) → nat_lt 8 (length params) ≡ a → (b : Bool) → nat_le 4096 (length procs) ≡ b
@@ -120,25 +121,36 @@ starts words = record { words = words; faulty = false }
 good_taken : (front : Front) (line : TextLine) (word : List ℕ) (words : List (List ℕ)) → has_bad_byte line.text ≡ false → words_of line.text ≡ word ∷ words
     → taken front line ≡ lined (form_from line.number word (starts words)) (λ f. added front f.0 f.1.faulty)
 unfolding taken listed_at
-good_taken front line word words good are = if_not (has_bad_byte line.text) (Err BadLine) (taken_good front line.number (words_of line.text)) good ∙ ap (taken_good front line.number) are
+good_taken front line word words good are =
+    if_not (has_bad_byte line.text) (Err BadLine) (taken_good front line.number (words_of line.text)) good
+    ∙ ap (taken_good front line.number) are
 
 -- a line of a shape is read so
-pub shape_taken : (front : Front) (line : TextLine) (f : Form) (h : HasShape f line) → (faulty : Bool) × Shaped line f faulty × (taken front line ≡ added front f faulty)
+pub shape_taken : (front : Front) (line : TextLine) (f : Form) (h : HasShape f line)
+    → (faulty : Bool) × Shaped line f faulty × (taken front line ≡ added front f faulty)
 shape_taken front line f h = of (words_of line.text) refl (fits_meets false (places f) (words_of line.text) h.words)
   where
-    of : (words : List (List ℕ)) → words_of line.text ≡ words → ((after : Bool) × Meets false (places f) (words_of line.text) after) → (faulty : Bool) × Shaped line f faulty × (taken front line ≡ added front f faulty)
+    of : (words : List (List ℕ)) → words_of line.text ≡ words → ((after : Bool) × Meets false (places f) (words_of line.text) after)
+        → (faulty : Bool) × Shaped line f faulty × (taken front line ≡ added front f faulty)
     of [] e m = absurd (no_form_words f false m.0 (subst (λ (ws : List (List ℕ)). Meets false (places f) ws m.0) e m.1))
     of (word ∷ words) e m =
         let met : Meets false (places f) (word ∷ words) m.0 = subst (λ (ws : List (List ℕ)). Meets false (places f) ws m.0) e m.1 in
         let x = form_complete line.number f word (starts words) m.0 h.shaped h.number met in
-        let next : Form × Cursor → Result Front GrammarKind = λ v. added front v.0 v.1.faulty in
-        (m.0, record { shape = h; met = m.1 }, good_taken front line word words h.good e ∙ ap (λ (r : Result (Form × Cursor) Bad). lined r next) x.1 ∙ ap (added front f) x.2)
+        let next : Form × Cursor → Result Front GrammarKind = λ v. added front v.0 v.1.faulty in (
+          m.0,
+          record { shape = h; met = m.1 },
+          good_taken front line word words h.good e
+              ∙ ap (λ (r : Result (Form × Cursor) Bad). lined r next) x.1 ∙ ap (added front f) x.2,
+        )
 
 -- one line has one shape
 pub one_shape : (line : TextLine) (f g : Form) → HasShape f line → HasShape g line → f ≡ g
-one_shape line f g h k = of (words_of line.text) refl (fits_meets false (places f) (words_of line.text) h.words) (fits_meets false (places g) (words_of line.text) k.words)
+one_shape line f g h k =
+    of (words_of line.text) refl (fits_meets false (places f) (words_of line.text) h.words)
+    (fits_meets false (places g) (words_of line.text) k.words)
   where
-    of : (words : List (List ℕ)) → words_of line.text ≡ words → ((after : Bool) × Meets false (places f) (words_of line.text) after) → ((after : Bool) × Meets false (places g) (words_of line.text) after) → f ≡ g
+    of : (words : List (List ℕ)) → words_of line.text ≡ words → ((after : Bool) × Meets false (places f) (words_of line.text) after)
+        → ((after : Bool) × Meets false (places g) (words_of line.text) after) → f ≡ g
     of [] e m n = absurd (no_form_words f false m.0 (subst (λ (ws : List (List ℕ)). Meets false (places f) ws m.0) e m.1))
     of (word ∷ words) e m n =
         let x = form_complete line.number f word (starts words) m.0 h.shaped h.number (subst (λ (ws : List (List ℕ)). Meets false (places f) ws m.0) e m.1) in
@@ -150,12 +162,20 @@ form_read : (front : Front) (line : TextLine) (word : List ℕ) (words : List (L
 form_read front line word words good are (Ok v) is =
     let x = form_sound line.number word (starts words) v.1 v.0 is in
     let met : Meets false (places v.0) (words_of line.text) v.1.faulty = subst (λ (ws : List (List ℕ)). Meets false (places v.0) ws v.1.faulty) (sym are) x.2 in
-    let shape : HasShape v.0 line = record { good = good; number = x.1; words = meets_fits false (places v.0) (words_of line.text) v.1.faulty met; shaped = x.0 } in
+    let shape : HasShape v.0 line = record {
+      good = good;
+      number = x.1;
+      words = meets_fits false (places v.0)
+          (words_of line.text) v.1.faulty met;
+      shaped = x.0;
+    } in
     let next : Form × Cursor → Result Front GrammarKind = λ w. added front w.0 w.1.faulty in
-    read v.0 v.1.faulty (record { shape = shape; met = met }) (good_taken front line word words good are ∙ ap (λ (r : Result (Form × Cursor) Bad). lined r next) is)
+    read v.0 v.1.faulty (record { shape = shape; met = met }) (good_taken front line word words good are
+    ∙ ap (λ (r : Result (Form × Cursor) Bad). lined r next) is)
 form_read front line word words good are (Err b) is =
     let next : Form × Cursor → Result Front GrammarKind = λ w. added front w.0 w.1.faulty in
-    shapeless (λ f h. no_shape f h (fits_meets false (places f) (words_of line.text) h.words)) (good_taken front line word words good are ∙ ap (λ (r : Result (Form × Cursor) Bad). lined r next) is)
+    shapeless (λ f h. no_shape f h (fits_meets false (places f) (words_of line.text) h.words))
+    (good_taken front line word words good are ∙ ap (λ (r : Result (Form × Cursor) Bad). lined r next) is)
   where
     no_shape : (f : Form) → HasShape f line → ((after : Bool) × Meets false (places f) (words_of line.text) after) → ⊥
     no_shape f h m =
@@ -168,7 +188,8 @@ unfolding taken
 line_read front line kept = of (has_bad_byte line.text) refl (words_of line.text) refl
   where
     of : (b : Bool) → has_bad_byte line.text ≡ b → (words : List (List ℕ)) → words_of line.text ≡ words → Read front line
-    of true e words k = shapeless (λ f h. let wrong : true ≡ false = sym e ∙ h.good in cc) (if_so (has_bad_byte line.text) (Err BadLine) (taken_good front line.number (words_of line.text)) e)
+    of true e words k = shapeless (λ f h. let wrong : true ≡ false = sym e ∙ h.good in cc)
+        (if_so (has_bad_byte line.text) (Err BadLine) (taken_good front line.number (words_of line.text)) e)
     of false e [] k = let none : counts line ≡ false = rw (e, k) refl in let wrong : true ≡ false = sym kept ∙ none in absurd cc
     of false e (word ∷ words) k = form_read front line word words e k (form_from line.number word (starts words)) refl
 
@@ -180,7 +201,8 @@ line_skipped front line skipped = of (has_bad_byte line.text) refl (words_of lin
     of : (b : Bool) → has_bad_byte line.text ≡ b → (words : List (List ℕ)) → words_of line.text ≡ words → taken front line ≡ Ok front
     of true e words k = let some : counts line ≡ true = rw e refl in let wrong : true ≡ false = sym some ∙ skipped in absurd cc
     of false e [] k = if_not (has_bad_byte line.text) (Err BadLine) (taken_good front line.number (words_of line.text)) e ∙ ap (taken_good front line.number) k
-    of false e (word ∷ words) k = let kept : not (length (word ∷ words) == 0) ≡ true = grind arith in let some : counts line ≡ true = rw (e, k) kept in let wrong : true ≡ false = sym some ∙ skipped in absurd cc
+    of false e (word ∷ words) k = let kept : not (length (word ∷ words) == 0) ≡ true = grind arith in
+        let some : counts line ≡ true = rw (e, k) kept in let wrong : true ≡ false = sym some ∙ skipped in absurd cc
 
 -- ---- lines and fronts that are right
 -- no number stands in the first line of a procedure, nor in its last
@@ -224,7 +246,12 @@ quiet_clean End words true quiet m = absurd (end_quiet words (spoilt (places End
 pub clean_line : (line : TextLine) (f : Form) (faulty : Bool) → Shaped line f faulty → IsQuiet f faulty → IsLine f line
 clean_line line f faulty h quiet =
     let none : faulty ≡ false = quiet_clean f (words_of line.text) faulty quiet h.met in
-    record { good = h.shape.good; number = h.shape.number; words = (clean false (places f) (words_of line.text) (subst (λ (b : Bool). Meets false (places f) (words_of line.text) b) none h.met)).1 }
+    record {
+      good = h.shape.good;
+      number = h.shape.number;
+      words =
+          (clean false (places f) (words_of line.text) (subst (λ (b : Bool). Meets false (places f) (words_of line.text) b) none h.met)).1;
+    }
 
 -- the flag says whether there is a faulty number
 pub flag_faulty : (line : TextLine) (f : Form) (faulty : Bool) → Shaped line f faulty → faulty ≡ true → HasFaultyNumber f line
@@ -254,9 +281,11 @@ fault_found front line kind kept h = of (line_read front line kept)
     of : Read front line → LineFault front line kind
     of (shapeless none is) = subst (LineFault front line) (same_kind BadLine kind (taken front line) is h) (λ f shape may. none f shape)
     of (read f faulty s is) = elim (outcome front f faulty) [
-      | misplaced not_may r ↦ subst (LineFault front line) (same_kind BadLine kind (taken front line) (is ∙ r) h) (λ g shape may. not_may (subst (MayFollow front) (one_shape line g f shape s.shape) may))
+      | misplaced not_may r ↦ subst (LineFault front line) (same_kind BadLine kind (taken front line) (is ∙ r) h)
+          (λ g shape may. not_may (subst (MayFollow front) (one_shape line g f shape s.shape) may))
       | over may ex r ↦ subst (LineFault front line) (same_kind TooMany kind (taken front line) (is ∙ r) h) (f, s.shape, may, ex)
-      | wrong may not_ex e r ↦ subst (LineFault front line) (same_kind BadNumber kind (taken front line) (is ∙ r) h) (f, s.shape, may, not_ex, flag_faulty line f faulty s e)
+      | wrong may not_ex e r ↦ subst (LineFault front line) (same_kind BadNumber kind (taken front line) (is ∙ r) h)
+          (f, s.shape, may, not_ex, flag_faulty line f faulty s e)
       | right may not_ex quiet r ↦ (let bad : Ok (front_with front f) ≡ Err kind = sym (is ∙ r) ∙ h in absurd cc)
     ]
 

@@ -26,10 +26,12 @@ use Rattle.ak_syntax.proofs.Params.{typed_parts, typed_made}
 
 -- ---- names
 name_sound : (word name : List ℕ) → name_found word ≡ Ok name → Stands (Named name) word
-name_sound word name h = let p = passed (is_name word) (good word) name h in let same : word ≡ name = ok_is p.1 in (same, subst (λ (w : List ℕ). is_name w ≡ true) same p.0)
+name_sound word name h = let p = passed (is_name word) (good word) name h in
+    let same : word ≡ name = ok_is p.1 in (same, subst (λ (w : List ℕ). is_name w ≡ true) same p.0)
 
 name_complete : (word name : List ℕ) → Stands (Named name) word → name_found word ≡ Ok name
-name_complete word name h = let here : is_name word ≡ true = subst (λ (w : List ℕ). is_name w ≡ true) (sym h.0) h.1 in if_so (is_name word) (good word) (Err bad) here ∙ ap good h.0
+name_complete word name h = let here : is_name word ≡ true = subst (λ (w : List ℕ). is_name w ≡ true) (sym h.0) h.1 in
+    if_so (is_name word) (good word) (Err bad) here ∙ ap good h.0
 
 pub name_plain : IsPlain Named name_found
 name_plain = record { sound = name_sound; complete = name_complete; never = λ word x h. h }
@@ -56,7 +58,8 @@ pub table_found : {K : Type 0} (f : K → List ℕ) (all : List K) (word : List 
 table_found f [] word k e = cc
 table_found {K} f (x ∷ all) word k e = of (bytes_eq (f x) word) refl e (table_found f all word k)
   where
-    of : (b : Bool) → bytes_eq (f x) word ≡ b → cond b (Some x) (find (λ k. bytes_eq (f k) word) all) ≡ Some k → (find (λ k. bytes_eq (f k) word) all ≡ Some k → word ≡ f k) → word ≡ f k
+    of : (b : Bool) → bytes_eq (f x) word ≡ b → cond b (Some x) (find (λ k. bytes_eq (f k) word) all) ≡ Some k
+        → (find (λ k. bytes_eq (f k) word) all ≡ Some k → word ≡ f k) → word ≡ f k
     of true is e later = sym ((bytes_eq-Decides (f x) word).0 is) ∙ ap f (some_is e)
     of false is e later = later e
 
@@ -102,13 +105,15 @@ mode_is : (word : List ℕ) (x : Bool) → mode_named word ≡ Some x → word �
 unfolding mode_named
 mode_is word x h = of (bytes_eq word (codes "stop")) refl (bytes_eq word (codes "go")) refl h
   where
-    of : (a : Bool) → bytes_eq word (codes "stop") ≡ a → (b : Bool) → bytes_eq word (codes "go") ≡ b → cond a (Some true) (cond b (Some false) None) ≡ Some x → word ≡ mode_word x
+    of : (a : Bool) → bytes_eq word (codes "stop") ≡ a → (b : Bool) → bytes_eq word (codes "go") ≡ b
+        → cond a (Some true) (cond b (Some false) None) ≡ Some x → word ≡ mode_word x
     of true e b k h = (bytes_eq-Decides word (codes "stop")).0 e ∙ ap mode_word (some_is h)
     of false e true k h = (bytes_eq-Decides word (codes "go")).0 k ∙ ap mode_word (some_is h)
     of false e false k h = cc
 
 -- a table of words, both ways
-table_plain : {K : Type 0} (f : K → List ℕ) (named : List ℕ → Option K) → ((word : List ℕ) (k : K) → named word ≡ Some k → word ≡ f k) → ((k : K) → named (f k) ≡ Some k)
+table_plain : {K : Type 0} (f : K → List ℕ) (named : List ℕ → Option K) → ((word : List ℕ) (k : K) → named word ≡ Some k → word ≡ f k)
+    → ((k : K) → named (f k) ≡ Some k)
     → IsPlain (λ k. Exactly (f k)) (λ word. some_found (named word))
 table_plain {K} f named is again = record {
   sound = λ word k h. is word k (some_sound (named word) k h);
@@ -118,7 +123,8 @@ table_plain {K} f named is again = record {
 
 pub operator_part : IsPart (Always {T = Operator}) (λ (x : Operator) (places : List Place). Exactly (operator_word x) ∷ places) operator_at
 unfolding operator_at word_at
-operator_part = found_part (λ x. Exactly (operator_word x)) (λ word. some_found (operator_named word)) (table_plain operator_word operator_named operator_is operator_again)
+operator_part = found_part (λ x. Exactly (operator_word x)) (λ word. some_found (operator_named word))
+    (table_plain operator_word operator_named operator_is operator_again)
 
 pub work_part : IsPart (Always {T = WorkWord}) (λ (x : WorkWord) (places : List Place). Exactly (work_word x) ∷ places) work_at
 unfolding work_at word_at
@@ -157,20 +163,23 @@ atom_sound word a b h = of (chosen (is_number_word word) (good (literal_found (n
     move : (x y : Atom × Bool) → x ≡ y → Case x.1 (Valued x.0) word → Case y.1 (Valued y.0) word
     move x y e k = subst (λ (z : Atom × Bool). Case z.1 (Valued z.0) word) e k
 
-    of : ((is_number_word word ≡ true) × (good (literal_found (number_of word)) ≡ good_pair a b)) ⊎ ((is_number_word word ≡ false) × ((name_found word >>= local_of) ≡ good_pair a b)) → Case b (Valued a) word
+    of : ((is_number_word word ≡ true) × (good (literal_found (number_of word)) ≡ good_pair a b))
+        ⊎ ((is_number_word word ≡ false) × ((name_found word >>= local_of) ≡ good_pair a b)) → Case b (Valued a) word
     of (inl e) = move (literal_found (number_of word)) (a, b) (ok_is e.1) (literal_case word (number_of word) e.0 refl)
     of (inr e) = let y = bind_ok (name_found word) local_of (a, b) e.1 in move (Local y.0, false) (a, b) (ok_is y.2) (name_sound word y.0 y.1)
 
 atom_complete : (word : List ℕ) (a : Atom) (b : Bool) → Case b (Valued a) word → atom_found word ≡ Ok (a, b)
 unfolding atom_found
 atom_complete word (Literal n) false h =
-    if_so (is_number_word word) (good (literal_found (number_of word))) (name_found word >>= local_of) (is_number word n h.1) ∙ ap (λ (o : Option ℤ). good (literal_found o)) (number_some word n h.1 h.0)
+    if_so (is_number_word word) (good (literal_found (number_of word))) (name_found word >>= local_of) (is_number word n h.1)
+    ∙ ap (λ (o : Option ℤ). good (literal_found o)) (number_some word n h.1 h.0)
 atom_complete word (Literal n) true h =
     if_so (is_number_word word) (good (literal_found (number_of word))) (name_found word >>= local_of) h.0.0
     ∙ ap (λ (o : Option ℤ). good (literal_found o)) (no_number word (λ m fits w. h.0.1 m (fits, w))) ∙ ap (λ (m : ℤ). good_pair (Literal m) true) (sym h.1)
 atom_complete word (Local n) false h =
     let here : is_name word ≡ true = subst (λ (w : List ℕ). is_name w ≡ true) (sym h.0) h.1 in
-    if_not (is_number_word word) (good (literal_found (number_of word))) (name_found word >>= local_of) (name_no_number word here) ∙ bind_is (name_found word) local_of n (name_complete word n h)
+    if_not (is_number_word word) (good (literal_found (number_of word))) (name_found word >>= local_of) (name_no_number word here)
+    ∙ bind_is (name_found word) local_of n (name_complete word n h)
 atom_complete word (Local n) true h = absurd h.0
 
 pub atom_item : IsItem Valued atom_found
@@ -205,7 +214,8 @@ count_none least word h other s =
     let some : count_in least (number_of word) ≡ Some other = ap (count_in least) (number_some word (pos other) s.2 fits) ∙ count_is least other s.0 s.1 in
     cc
 
-count_case : (least : ℕ) (word : List ℕ) (o : Option ℕ) → is_number_word word ≡ true → count_in least (number_of word) ≡ o → Case (count_or_zero o).1 (Counted least (count_or_zero o).0) word
+count_case : (least : ℕ) (word : List ℕ) (o : Option ℕ) → is_number_word word ≡ true → count_in least (number_of word) ≡ o
+    → Case (count_or_zero o).1 (Counted least (count_or_zero o).0) word
 count_case least word (Some k) h e = let c = count_some least (number_of word) k e in let r = number_reads word (pos k) c.0 in (c.1, c.2, r.0)
 count_case least word None h e = ((h, count_none least word e), refl)
 
@@ -223,11 +233,13 @@ count_complete : (least : ℕ) (word : List ℕ) (k : ℕ) (b : Bool) → Case b
 count_complete least word k false h =
     let fits : FitsSigned w64 (pos k) = omega (arith, ints, h.1) in
     let some : count_in least (number_of word) ≡ Some k = ap (count_in least) (number_some word (pos k) h.2 fits) ∙ count_is least k h.0 h.1 in
-    if_so (is_number_word word) (good (count_or_zero (count_in least (number_of word)))) (Err bad) (is_number word (pos k) h.2) ∙ ap (λ (o : Option ℕ). good (count_or_zero o)) some
+    if_so (is_number_word word) (good (count_or_zero (count_in least (number_of word)))) (Err bad) (is_number word (pos k) h.2)
+    ∙ ap (λ (o : Option ℕ). good (count_or_zero o)) some
 count_complete least word k true h =
     let none : count_in least (number_of word) ≡ None = none_where (count_in least (number_of word)) (λ m e.
     let c = count_some least (number_of word) m e in let r = number_reads word (pos m) c.0 in h.0.1 m (c.1, c.2, r.0)) in
-    if_so (is_number_word word) (good (count_or_zero (count_in least (number_of word)))) (Err bad) h.0.0 ∙ ap (λ (o : Option ℕ). good (count_or_zero o)) none ∙ ap (λ (m : ℕ). good_pair m true) (sym h.1)
+    if_so (is_number_word word) (good (count_or_zero (count_in least (number_of word)))) (Err bad) h.0.0
+    ∙ ap (λ (o : Option ℕ). good (count_or_zero o)) none ∙ ap (λ (m : ℕ). good_pair m true) (sym h.1)
 
 pub count_part : (least : ℕ) → IsPart (Always {T = ℕ}) (λ (k : ℕ) (places : List Place). Counted least k ∷ places) (count_at least)
 unfolding count_at word_at
@@ -275,7 +287,8 @@ unfolding param_found
 param_complete word p h =
     let parts = typed_parts word p h in
     let named : name_found (take (length p.name) word) ≡ Ok p.name = name_complete (take (length p.name) word) p.name (parts.1, h.1) in
-    let kind : some_found (kind_named (drop (length p.name + 1) word)) ≡ Ok p.kind = ap (λ (w : List ℕ). some_found (kind_named w)) parts.2 ∙ ap some_found (kind_again p.kind) in
+    let kind : some_found (kind_named (drop (length p.name + 1) word)) ≡ Ok p.kind =
+    ap (λ (w : List ℕ). some_found (kind_named w)) parts.2 ∙ ap some_found (kind_again p.kind) in
     ap (param_cut word) (sym parts.0) ∙ bind_is (name_found (take (length p.name) word)) (param_behind word (length p.name)) p.name named
     ∙ bind_is (some_found (kind_named (drop (length p.name + 1) word))) (param_of p.name) p.kind kind
 

@@ -32,7 +32,8 @@ use Rattle.ak_syntax.proofs.TakenRows.{statement_sound}
 abbrev pub IsFormOf : ℕ → List ℕ → Cursor → Form → Cursor → Type 0
 IsFormOf number word c f left = IsShaped f × HasNumber f number × Meets c.faulty (places f) (word ∷ c.words) left.faulty
 
-pub mapped_sound : {A B : Type 0} (f : A → B) {good : A → Type 0} {shape : A → List Place} {part : Part A} → IsLast good shape part → (c left : Cursor) (b : B) → mapped f part c ≡ Ok (b, left)
+pub mapped_sound : {A B : Type 0} (f : A → B) {good : A → Type 0} {shape : A → List Place} {part : Part A} → IsLast good shape part
+    → (c left : Cursor) (b : B) → mapped f part c ≡ Ok (b, left)
     → (a : A) × (f a ≡ b) × good a × Meets c.faulty (shape a) c.words left.faulty
 mapped_sound {A} {B} f {good} {shape} {part} p c left b h =
     let x = bind_ok (part c) (image f) (b, left) h in
@@ -84,9 +85,11 @@ abbrev worded : ℕ → Prefix → List ℕ × Cursor → Result (Form × Cursor
 worded number prefix w = statement_at w.0 w.1 >>= bound_in number prefix
 
 abbrev Conditional : ℕ → Prefix → Cursor → Form → Cursor → Type 0
-Conditional number prefix c f left = (s : Stmt) × (body_of number (Some prefix) s ≡ f) × (binds s ≡ []) × HasDeferreds s × Meets c.faulty (row s) c.words left.faulty
+Conditional number prefix c f left = (s : Stmt) × (body_of number (Some prefix) s ≡ f) × (binds s ≡ []) × HasDeferreds s
+    × Meets c.faulty (row s) c.words left.faulty
 
-cond_words : (number : ℕ) (prefix : Prefix) (words : List (List ℕ)) (faulty : Bool) (left : Cursor) (f : Form) → (word_from words faulty >>= worded number prefix) ≡ Ok (f, left)
+cond_words : (number : ℕ) (prefix : Prefix) (words : List (List ℕ)) (faulty : Bool) (left : Cursor) (f : Form)
+    → (word_from words faulty >>= worded number prefix) ≡ Ok (f, left)
     → Conditional number prefix (record { words = words; faulty = faulty }) f left
 cond_words number prefix [] faulty left f h = absurd cc
 cond_words number prefix (word ∷ words) faulty left f h =
@@ -95,12 +98,15 @@ cond_words number prefix (word ∷ words) faulty left f h =
     of x (chosen (length (binds x.0.0) == 0) (body_in number (Some prefix) x.0) (Err bad) (good_pair f left) x.2)
   where
     of : (x : (s : Stmt × Cursor) × (statement_at word (record { words = words; faulty = faulty }) ≡ Ok s) × (bound_in number prefix s ≡ good_pair f left))
-        → (((length (binds x.0.0) == 0) ≡ true) × (body_in number (Some prefix) x.0 ≡ good_pair f left)) ⊎ (((length (binds x.0.0) == 0) ≡ false) × (Err bad ≡ good_pair f left))
+        → (((length (binds x.0.0) == 0) ≡ true) × (body_in number (Some prefix) x.0 ≡ good_pair f left))
+        ⊎ (((length (binds x.0.0) == 0) ≡ false) × (Err bad ≡ good_pair f left))
         → Conditional number prefix (record { words = word ∷ words; faulty = faulty }) f left
     of x (inr e) = let wrong : Err bad ≡ good_pair f left = e.1 in absurd cc
     of x (inl e) =
         let same = ok_pair e.1 in
-        let r : IsRowOf word (record { words = words; faulty = faulty }) x.0.0 left = subst (λ (l : Cursor). IsRowOf word (record { words = words; faulty = faulty }) x.0.0 l) same.1 (statement_sound word (record { words = words; faulty = faulty }) x.0.1 x.0.0 x.1) in
+        let r : IsRowOf word (record { words = words; faulty = faulty }) x.0.0 left = subst
+        (λ (l : Cursor). IsRowOf word (record { words = words; faulty = faulty }) x.0.0 l) same.1
+        (statement_sound word (record { words = words; faulty = faulty }) x.0.1 x.0.0 x.1) in
         (x.0.0, same.0, no_items (binds x.0.0) e.0, r.0, r.1)
 
 cond_sound : (number : ℕ) (prefix : Prefix) (c left : Cursor) (f : Form) → conditional_at number prefix c ≡ Ok (f, left) → Conditional number prefix c f left
@@ -134,9 +140,12 @@ form_sound number word c left f h =
     at : (key : List ℕ) → bytes_eq word key ≡ true → IsFormOf number key c f left → IsFormOf number word c f left
     at key e r = subst (λ (w : List ℕ). IsFormOf number w c f left) (sym ((bytes_eq-Decides word key).0 e)) r
 
-    of : (p : Bool) → bytes_eq word (codes "proc") ≡ p → (e : Bool) → bytes_eq word (codes "end") ≡ e → (i : Bool) → bytes_eq word (codes "if") ≡ i → (u : Bool) → bytes_eq word (codes "unless") ≡ u
+    of : (p : Bool) → bytes_eq word (codes "proc") ≡ p → (e : Bool) → bytes_eq word (codes "end") ≡ e → (i : Bool)
+        → bytes_eq word (codes "if") ≡ i → (u : Bool) → bytes_eq word (codes "unless") ≡ u
         → (a : Bool) → bytes_eq word (codes "async") ≡ a
-        → cond p (head_at number) (cond e end_form_at (cond i (if_at number) (cond u (unless_at number) (cond a async_at (plain_at number word))))) c ≡ Ok (f, left)
+        → cond p (head_at number)
+        (cond e end_form_at (cond i (if_at number) (cond u (unless_at number) (cond a async_at (plain_at number word))))) c
+        ≡ Ok (f, left)
         → IsFormOf number word c f left
     of true x e y i z u t a v h = at (codes "proc") x (head_sound number c left f h)
     of false x true y i z u t a v h = at (codes "end") y (end_form_sound number c left f h)
@@ -238,12 +247,14 @@ no_row_async c = refl
 abbrev pub Completes : ℕ → List ℕ → Cursor → Form → Bool → Type 0
 Completes number word c f after = (left : Cursor) × (form_from number word c ≡ Ok (f, left)) × (left.faulty ≡ after)
 
-plain_choice : (number : ℕ) (word : List ℕ) (c : Cursor) → bytes_eq word (codes "proc") ≡ false → bytes_eq word (codes "end") ≡ false → bytes_eq word (codes "if") ≡ false → bytes_eq word (codes "unless") ≡ false
+plain_choice : (number : ℕ) (word : List ℕ) (c : Cursor) → bytes_eq word (codes "proc") ≡ false → bytes_eq word (codes "end") ≡ false
+    → bytes_eq word (codes "if") ≡ false → bytes_eq word (codes "unless") ≡ false
     → bytes_eq word (codes "async") ≡ false → form_from number word c ≡ plain_at number word c
 unfolding form_from
 plain_choice number word c p e i u a = rw (p, e, i, u, a) refl
 
-plain_complete : (number : ℕ) (stmt : Stmt) (word : List ℕ) (c : Cursor) (after : Bool) → HasDeferreds stmt → Meets c.faulty (row stmt) (word ∷ c.words) after → Completes number word c (body_of number None stmt) after
+plain_complete : (number : ℕ) (stmt : Stmt) (word : List ℕ) (c : Cursor) (after : Bool) → HasDeferreds stmt
+    → Meets c.faulty (row stmt) (word ∷ c.words) after → Completes number word c (body_of number None stmt) after
 unfolding plain_at
 plain_complete number stmt word c after has m =
     let x = statement_complete stmt word c after has m in
@@ -252,7 +263,8 @@ plain_complete number stmt word c after has m =
     (no_row_of (codes "async") no_row_async word c x.0 stmt x.1) in
     (x.0, choice ∙ bind_is (statement_at word c) (body_in number None) (stmt, x.0) x.1, x.2)
 
-cond_words_complete : (number : ℕ) (prefix : Prefix) (stmt : Stmt) (words : List (List ℕ)) (faulty after : Bool) → binds stmt ≡ [] → HasDeferreds stmt → Meets faulty (row stmt) words after
+cond_words_complete : (number : ℕ) (prefix : Prefix) (stmt : Stmt) (words : List (List ℕ)) (faulty after : Bool) → binds stmt ≡ []
+    → HasDeferreds stmt → Meets faulty (row stmt) words after
     → (left : Cursor) × ((word_from words faulty >>= worded number prefix) ≡ Ok (body_of number (Some prefix) stmt, left)) × (left.faulty ≡ after)
 cond_words_complete number prefix stmt [] faulty after none has m = absurd (no_words stmt faulty after m)
 cond_words_complete number prefix stmt (word ∷ words) faulty after none has m =
@@ -264,12 +276,14 @@ cond_words_complete number prefix stmt (word ∷ words) faulty after none has m 
       x.2,
     )
 
-cond_complete : (number : ℕ) (prefix : Prefix) (stmt : Stmt) (c : Cursor) (after : Bool) → binds stmt ≡ [] → HasDeferreds stmt → Meets c.faulty (row stmt) c.words after
+cond_complete : (number : ℕ) (prefix : Prefix) (stmt : Stmt) (c : Cursor) (after : Bool) → binds stmt ≡ [] → HasDeferreds stmt
+    → Meets c.faulty (row stmt) c.words after
     → (left : Cursor) × (conditional_at number prefix c ≡ Ok (body_of number (Some prefix) stmt, left)) × (left.faulty ≡ after)
 unfolding conditional_at word_at
 cond_complete number prefix stmt c after none has m = cond_words_complete number prefix stmt c.words c.faulty after none has m
 
-if_complete : (number : ℕ) (a : Atom) (stmt : Stmt) (c : Cursor) (after : Bool) → binds stmt ≡ [] → HasDeferreds stmt → Meets c.faulty (Valued a ∷ row stmt) c.words after
+if_complete : (number : ℕ) (a : Atom) (stmt : Stmt) (c : Cursor) (after : Bool) → binds stmt ≡ [] → HasDeferreds stmt
+    → Meets c.faulty (Valued a ∷ row stmt) c.words after
     → (left : Cursor) × (if_at number c ≡ Ok (body_of number (Some (If a)) stmt, left)) × (left.faulty ≡ after)
 unfolding if_at
 if_complete number a stmt c after none has m =
@@ -278,7 +292,8 @@ if_complete number a stmt c after none has m =
     let y = cond_complete number (If a) stmt x.0 after none has x.2 in
     (y.0, bind_is (atom_at c) rest (a, x.0) x.1 ∙ y.1, y.2)
 
-unless_complete : (number : ℕ) (a : Atom) (stmt : Stmt) (c : Cursor) (after : Bool) → binds stmt ≡ [] → HasDeferreds stmt → Meets c.faulty (Valued a ∷ row stmt) c.words after
+unless_complete : (number : ℕ) (a : Atom) (stmt : Stmt) (c : Cursor) (after : Bool) → binds stmt ≡ [] → HasDeferreds stmt
+    → Meets c.faulty (Valued a ∷ row stmt) c.words after
     → (left : Cursor) × (unless_at number c ≡ Ok (body_of number (Some (Unless a)) stmt, left)) × (left.faulty ≡ after)
 unfolding unless_at
 unless_complete number a stmt c after none has m =
@@ -292,18 +307,25 @@ body_complete : (number : ℕ) (prefix : Option Prefix) (stmt : Stmt) (word : Li
 unfolding form_from
 body_complete number None stmt word c after may has m = plain_complete number stmt word c after has m
 body_complete number (Some (If a)) stmt word c after may has (inr m) = absurd m.0
-body_complete number (Some (If a)) stmt word c after may has (inl m) = let x = if_complete number a stmt c after may has m.1 in (x.0, ap (λ (w : List ℕ). form_from number w c) m.0 ∙ x.1, x.2)
+body_complete number (Some (If a)) stmt word c after may has (inl m) = let x =
+    if_complete number a stmt c after may has m.1 in (x.0, ap (λ (w : List ℕ). form_from number w c) m.0 ∙ x.1, x.2)
 body_complete number (Some (Unless a)) stmt word c after may has (inr m) = absurd m.0
-body_complete number (Some (Unless a)) stmt word c after may has (inl m) = let x = unless_complete number a stmt c after may has m.1 in (x.0, ap (λ (w : List ℕ). form_from number w c) m.0 ∙ x.1, x.2)
+body_complete number (Some (Unless a)) stmt word c after may has (inl m) = let x =
+    unless_complete number a stmt c after may has m.1 in (x.0, ap (λ (w : List ℕ). form_from number w c) m.0 ∙ x.1, x.2)
 
-pub form_complete : (number : ℕ) (f : Form) (word : List ℕ) (c : Cursor) (after : Bool) → IsShaped f → HasNumber f number → Meets c.faulty (places f) (word ∷ c.words) after → Completes number word c f after
+pub form_complete : (number : ℕ) (f : Form) (word : List ℕ) (c : Cursor) (after : Bool) → IsShaped f → HasNumber f number
+    → Meets c.faulty (places f) (word ∷ c.words) after → Completes number word c f after
 unfolding form_from head_at async_at end_form_at
 form_complete number (Head name line params) word c after shaped is (inr m) = absurd m.0
 form_complete number (Head name line params) word c after shaped is (inl m) =
     let p = both_last name_part params_last in
     let x = p.complete c (name, params) after (tt, tt) m.1 in
-    let made : List ℕ × List Param → Form = λ t. Head t.0 number t.1 in
-    (x.0, ap (λ (w : List ℕ). form_from number w c) m.0 ∙ bind_is (both name_at params_at c) (image made) ((name, params), x.0) x.1 ∙ ap (λ (n : ℕ). good_pair (Head name n params) x.0) (sym is), x.2)
+    let made : List ℕ × List Param → Form = λ t. Head t.0 number t.1 in (
+      x.0,
+      ap (λ (w : List ℕ). form_from number w c) m.0 ∙ bind_is (both name_at params_at c) (image made) ((name, params), x.0) x.1
+          ∙ ap (λ (n : ℕ). good_pair (Head name n params) x.0) (sym is),
+      x.2,
+    )
 form_complete number Async word c after shaped is (inr m) = absurd m.0
 form_complete number Async word c after shaped is (inl m) =
     let p = both_last (exactly_part (codes "2")) end_last in

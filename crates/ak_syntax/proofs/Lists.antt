@@ -24,12 +24,14 @@ pub no_front : {T : Type 0} (rest : Result (List T × Cursor) Bad) → with_fron
 no_front (Ok r) = refl
 no_front (Err e) = refl
 
-pub one_more : {T : Type 0} (front : List T) (x : T) (rest : Result (List T × Cursor) Bad) → with_front front (with_front (x ∷ []) rest) ≡ with_front (front ++ x ∷ []) rest
+pub one_more : {T : Type 0} (front : List T) (x : T) (rest : Result (List T × Cursor) Bad)
+    → with_front front (with_front (x ∷ []) rest) ≡ with_front (front ++ x ∷ []) rest
 one_more front x (Ok r) = ap (λ (xs : List _). Ok (xs, r.1)) (sym (append_assoc front (x ∷ []) r.0))
 one_more front x (Err e) = refl
 
 -- where the part is refused for a reason, the whole is for the same
-pub refused_as : {A B : Type 0} (e : Fault) (part : Result A Bad) (whole : Result B Bad) → Refuses e part → ((kind : Bad) → part ≡ Err kind → whole ≡ Err kind) → Refuses e whole
+pub refused_as : {A B : Type 0} (e : Fault) (part : Result A Bad) (whole : Result B Bad) → Refuses e part
+    → ((kind : Bad) → part ≡ Err kind → whole ≡ Err kind) → Refuses e whole
 refused_as (Grammar kind) part whole h to = (h.0, to bad h.1)
 refused_as NoMemory part whole h to = tt
 
@@ -39,15 +41,18 @@ pub record Next (until : Until) (words : List (List ℕ)) (faulty : Bool) (word 
   pub flag : left.faulty ≡ faulty
   pub goes_on : ends_list until word ≡ false
 
-pub next_word : (until : Until) (words : List (List ℕ)) (faulty : Bool) (word : List ℕ) (left : Cursor) → listed_from until words faulty ≡ Ok (Some word, left) → Next until words faulty word left
+pub next_word : (until : Until) (words : List (List ℕ)) (faulty : Bool) (word : List ℕ) (left : Cursor)
+    → listed_from until words faulty ≡ Ok (Some word, left) → Next until words faulty word left
 next_word until [] faulty word left h = of (is_line_end until) h
   where
-    of : (b : Bool) → cond {A = Result (Option (List ℕ) × Cursor) Bad} b (Ok (None, record { words = []; faulty = faulty })) (Err bad) ≡ Ok (Some word, left) → Next until [] faulty word left
+    of : (b : Bool) → cond {A = Result (Option (List ℕ) × Cursor) Bad} b (Ok (None, record { words = []; faulty = faulty })) (Err bad)
+        ≡ Ok (Some word, left) → Next until [] faulty word left
     of true h = let none : None ≡ Some word = (ok_pair h).0 in cc
     of false h = cc
 next_word until (first ∷ words) faulty word left h = of (ends_list until first) refl h
   where
-    of : (b : Bool) → ends_list until first ≡ b → good_pair (cond b None (Some first)) (record { words = words; faulty = faulty }) ≡ good_pair (Some word) left → Next until (first ∷ words) faulty word left
+    of : (b : Bool) → ends_list until first ≡ b → good_pair (cond b None (Some first)) (record { words = words; faulty = faulty })
+        ≡ good_pair (Some word) left → Next until (first ∷ words) faulty word left
     of true e h = let none : None ≡ Some word = (ok_pair h).0 in cc
     of false e h =
         let same : first ≡ word = some_is (ok_pair h).0 in
@@ -57,7 +62,8 @@ next_word until (first ∷ words) faulty word left h = of (ends_list until first
 
 -- one more item
 pub item_read : {T : Type 0} (item : List ℕ → Result (T × Bool) Bad) (until : Until) (c left : Cursor) (word : List ℕ) (x : T) (b : Bool)
-    → listed_at until c ≡ Ok (Some word, left) → item word ≡ Ok (x, b) → list_from item until c.words c.faulty ≡ with_front (x ∷ []) (list_from item until left.words (b || left.faulty))
+    → listed_at until c ≡ Ok (Some word, left) → item word ≡ Ok (x, b) → list_from item until c.words c.faulty
+    ≡ with_front (x ∷ []) (list_from item until left.words (b || left.faulty))
 unfolding listed_at list_from
 item_read item until c left word x b h is = let next = next_word until c.words c.faulty word left h in
     rw (next.words_are) (rw (next.goes_on, is, next.flag) refl)
@@ -73,12 +79,15 @@ pub list_over : {T : Type 0} (item : List ℕ → Result (T × Bool) Bad) (until
 unfolding list_from
 list_over {T} item until [] faulty left h = of (is_line_end until) h
   where
-    of : (b : Bool) → cond {A = Result (Option (List ℕ) × Cursor) Bad} b (Ok (None, record { words = []; faulty = faulty })) (Err bad) ≡ Ok (None, left) → cond {A = Result (List T × Cursor) Bad} b (Ok ([], record { words = []; faulty = faulty })) (Err bad) ≡ Ok ([], left)
+    of : (b : Bool) → cond {A = Result (Option (List ℕ) × Cursor) Bad} b (Ok (None, record { words = []; faulty = faulty })) (Err bad)
+        ≡ Ok (None, left) → cond {A = Result (List T × Cursor) Bad} b (Ok ([], record { words = []; faulty = faulty })) (Err bad)
+        ≡ Ok ([], left)
     of true h = ap (λ (l : Cursor). Ok ([], l)) (ok_pair h).1
     of false h = cc
 list_over {T} item until (first ∷ words) faulty left h = of (ends_list until first) refl h
   where
-    of : (b : Bool) → ends_list until first ≡ b → good_pair (cond b None (Some first)) (record { words = words; faulty = faulty }) ≡ good_pair None left → list_from item until (first ∷ words) faulty ≡ Ok ([], left)
+    of : (b : Bool) → ends_list until first ≡ b → good_pair (cond b None (Some first)) (record { words = words; faulty = faulty })
+        ≡ good_pair None left → list_from item until (first ∷ words) faulty ≡ Ok ([], left)
     of true e h = rw e (ap (λ (l : Cursor). Ok ([], l)) (ok_pair h).1)
     of false e h = let none : Some first ≡ None = (ok_pair h).0 in cc
 
@@ -87,7 +96,8 @@ pub list_refused : {T : Type 0} (item : List ℕ → Result (T × Bool) Bad) (un
 unfolding list_from
 list_refused {T} item until [] faulty kind h = of (is_line_end until) h
   where
-    of : (b : Bool) → cond {A = Result (Option (List ℕ) × Cursor) Bad} b (Ok (None, record { words = []; faulty = faulty })) (Err bad) ≡ Err kind → cond {A = Result (List T × Cursor) Bad} b (Ok ([], record { words = []; faulty = faulty })) (Err bad) ≡ Err kind
+    of : (b : Bool) → cond {A = Result (Option (List ℕ) × Cursor) Bad} b (Ok (None, record { words = []; faulty = faulty })) (Err bad)
+        ≡ Err kind → cond {A = Result (List T × Cursor) Bad} b (Ok ([], record { words = []; faulty = faulty })) (Err bad) ≡ Err kind
     of true h = cc
     of false h = cc
 list_refused {T} item until (first ∷ words) faulty kind h = cc
@@ -97,11 +107,14 @@ unfolding listed_at
 fewer_words until c left word h = let next = next_word until c.words c.faulty word left h in rw (next.words_are) (omega arith)
 
 -- ---- a turn of a loop, the items so far put in front
-pub goes_on : {T : Type 0} (item : List ℕ → Result (T × Bool) Bad) (until : Until) (c left now : Cursor) (front pushed : List T) (word : List ℕ) (x : T) (b : Bool) (whole : Result (List T × Cursor) Bad)
-    → with_front front (list_from item until c.words c.faulty) ≡ whole → listed_at until c ≡ Ok (Some word, left) → item word ≡ Ok (x, b) → pushed ≡ front ++ x ∷ [] → now.words ≡ left.words → now.faulty ≡ (b || left.faulty)
+pub goes_on : {T : Type 0} (item : List ℕ → Result (T × Bool) Bad) (until : Until) (c left now : Cursor) (front pushed : List T)
+    (word : List ℕ) (x : T) (b : Bool) (whole : Result (List T × Cursor) Bad)
+    → with_front front (list_from item until c.words c.faulty) ≡ whole → listed_at until c ≡ Ok (Some word, left) → item word ≡ Ok (x, b)
+    → pushed ≡ front ++ x ∷ [] → now.words ≡ left.words → now.faulty ≡ (b || left.faulty)
     → with_front pushed (list_from item until now.words now.faulty) ≡ whole
 goes_on item until c left now front pushed word x b whole so_far h is grown words flag =
-    rw (grown, words, flag) (sym (one_more front x (list_from item until left.words (b || left.faulty))) ∙ ap (with_front front) (sym (item_read item until c left word x b h is)) ∙ so_far)
+    rw (grown, words, flag) (sym (one_more front x (list_from item until left.words (b || left.faulty)))
+    ∙ ap (with_front front) (sym (item_read item until c left word x b h is)) ∙ so_far)
 
 pub ends : {T : Type 0} (item : List ℕ → Result (T × Bool) Bad) (until : Until) (c left : Cursor) (front : List T) (whole : Result (List T × Cursor) Bad)
     → with_front front (list_from item until c.words c.faulty) ≡ whole → listed_at until c ≡ Ok (None, left) → whole ≡ Ok (front, left)
@@ -109,12 +122,14 @@ unfolding listed_at
 ends item until c left front whole so_far h =
     sym so_far ∙ ap (with_front front) (list_over item until c.words c.faulty left h) ∙ ap (λ (xs : List _). Ok (xs, left)) (append-nil front)
 
-pub stops : {T : Type 0} (item : List ℕ → Result (T × Bool) Bad) (until : Until) (c : Cursor) (front : List T) (whole : Result (List T × Cursor) Bad) (kind : Bad)
+pub stops : {T : Type 0} (item : List ℕ → Result (T × Bool) Bad) (until : Until) (c : Cursor) (front : List T)
+    (whole : Result (List T × Cursor) Bad) (kind : Bad)
     → with_front front (list_from item until c.words c.faulty) ≡ whole → listed_at until c ≡ Err kind → whole ≡ Err kind
 unfolding listed_at
 stops item until c front whole kind so_far h = sym so_far ∙ ap (with_front front) (list_refused item until c.words c.faulty kind h)
 
-pub stops_at : {T : Type 0} (item : List ℕ → Result (T × Bool) Bad) (until : Until) (c left : Cursor) (front : List T) (word : List ℕ) (whole : Result (List T × Cursor) Bad) (kind : Bad)
+pub stops_at : {T : Type 0} (item : List ℕ → Result (T × Bool) Bad) (until : Until) (c left : Cursor) (front : List T) (word : List ℕ)
+    (whole : Result (List T × Cursor) Bad) (kind : Bad)
     → with_front front (list_from item until c.words c.faulty) ≡ whole → listed_at until c ≡ Ok (Some word, left) → item word ≡ Err kind → whole ≡ Err kind
 stops_at item until c left front word whole kind so_far h is = sym so_far ∙ ap (with_front front) (item_refused item until c left word kind h is)
 
@@ -130,7 +145,8 @@ is_none None h = refl
 is_none (Some a) h = absurd (h a refl)
 
 -- ---- deferreds of a `choose`
-one_taken : (words : List (List ℕ)) (faulty : Bool) (word : List ℕ) (left : Cursor) → word_from words faulty ≡ Ok (word, left) → length left.words < length words
+one_taken : (words : List (List ℕ)) (faulty : Bool) (word : List ℕ) (left : Cursor) → word_from words faulty ≡ Ok (word, left)
+    → length left.words < length words
 one_taken [] faulty word left h = cc
 one_taken (first ∷ words) faulty word left h = let same = ap (λ (c : Cursor). c.words) (ok_pair h).1 in rw (sym same) (omega arith)
 
@@ -151,7 +167,8 @@ choice_then d proc rest = rest >>= λ r. Ok (record { d = d; proc = proc } ∷ r
 two_more : (word next : List ℕ) (words : List (List ℕ)) (faulty : Bool) → ends_list With word ≡ false
     → choices_from (word ∷ next ∷ words) faulty ≡ (name_found word >>= λ d. name_found next >>= λ p. choice_then d p (choices_from words faulty))
 unfolding choices_from
-two_more word next words faulty goes = if_not (ends_list With word) (Ok ([], record { words = next ∷ words; faulty = faulty })) (name_found word >>= λ d. name_found next >>= λ p. choice_then d p (choices_from words faulty)) goes
+two_more word next words faulty goes = if_not (ends_list With word) (Ok ([], record { words = next ∷ words; faulty = faulty }))
+    (name_found word >>= λ d. name_found next >>= λ p. choice_then d p (choices_from words faulty)) goes
 
 abbrev named_then : List (List ℕ) → Bool → List ℕ → Result (List ℕ × Cursor) Bad
 named_then words faulty n = Ok (n, record { words = words; faulty = faulty })
@@ -166,25 +183,34 @@ second_from word (next ∷ words) faulty d proc now goes first h =
     let found = bind_ok (name_found next) last (proc, now) h in
     let same = ok_pair found.2 in
     let second : name_found next ≡ Ok proc = found.1 ∙ ap Ok same.0 in
-    rw (sym same.1) (two_more word next words faulty goes ∙ bind_is (name_found word) (λ d. name_found next >>= λ p. choice_then d p (choices_from words faulty)) d first ∙ bind_is (name_found next) (λ p. choice_then d p (choices_from words faulty)) proc second)
+    rw (sym same.1) (two_more word next words faulty goes ∙ bind_is (name_found word)
+    (λ d. name_found next >>= λ p. choice_then d p (choices_from words faulty)) d first
+    ∙ bind_is (name_found next) (λ p. choice_then d p (choices_from words faulty)) proc second)
 
-first_from : (word : List ℕ) (words : List (List ℕ)) (faulty : Bool) (kind : Bad) → ends_list With word ≡ false → name_found word ≡ Err kind → choices_from (word ∷ words) faulty ≡ Err kind
+first_from : (word : List ℕ) (words : List (List ℕ)) (faulty : Bool) (kind : Bad) → ends_list With word ≡ false
+    → name_found word ≡ Err kind → choices_from (word ∷ words) faulty ≡ Err kind
 unfolding choices_from
 first_from word [] faulty kind goes first = rw goes (ap Err (sym (bad_name word kind first)))
-first_from word (next ∷ words) faulty kind goes first = two_more word next words faulty goes ∙ (bind_err (name_found word) (λ d. name_found next >>= λ p. choice_then d p (choices_from words faulty)) kind first)
+first_from word (next ∷ words) faulty kind goes first =
+    two_more word next words faulty goes
+    ∙ (bind_err (name_found word) (λ d. name_found next >>= λ p. choice_then d p (choices_from words faulty)) kind first)
 
 second_bad : (word : List ℕ) (words : List (List ℕ)) (faulty : Bool) (d : List ℕ) (kind : Bad) → ends_list With word ≡ false → name_found word ≡ Ok d
     → name_from words faulty ≡ Err kind → choices_from (word ∷ words) faulty ≡ Err kind
 unfolding choices_from
 second_bad word [] faulty d kind goes first h = let bad : bad ≡ kind = cc in rw goes (ap Err bad)
-second_bad word (next ∷ words) faulty d kind goes first h = two_more word next words faulty goes ∙ (bind_is (name_found word) (λ d. name_found next >>= λ p. choice_then d p (choices_from words faulty)) d first ∙ rest (name_found next) h)
+second_bad word (next ∷ words) faulty d kind goes first h =
+    two_more word next words faulty goes
+    ∙ (bind_is (name_found word) (λ d. name_found next >>= λ p. choice_then d p (choices_from words faulty)) d first
+    ∙ rest (name_found next) h)
   where
     rest : (r : Result (List ℕ) Bad) → (r >>= named_then words faulty) ≡ Err kind → (r >>= λ p. choice_then d p (choices_from words faulty)) ≡ Err kind
     rest (Ok n) h = cc
     rest (Err e) h = cc
 
 pub choice_goes_on : (c left now : Cursor) (front pushed : List Choice) (word d proc : List ℕ) (whole : Result (List Choice × Cursor) Bad)
-    → with_front front (choices_from c.words c.faulty) ≡ whole → listed_at With c ≡ Ok (Some word, left) → name_found word ≡ Ok d → name_at left ≡ Ok (proc, now)
+    → with_front front (choices_from c.words c.faulty) ≡ whole → listed_at With c ≡ Ok (Some word, left) → name_found word ≡ Ok d
+    → name_at left ≡ Ok (proc, now)
     → pushed ≡ front ++ record { d = d; proc = proc } ∷ [] → with_front pushed (choices_from now.words now.faulty) ≡ whole
 unfolding listed_at name_at word_at
 choice_goes_on c left now front pushed word d proc whole so_far h first second grown =
@@ -202,28 +228,34 @@ choice_stops_at c left front word whole kind so_far h first =
     sym so_far ∙ ap (with_front front) refused
 
 pub choice_stops_second : (c left : Cursor) (front : List Choice) (word d : List ℕ) (whole : Result (List Choice × Cursor) Bad) (kind : Bad)
-    → with_front front (choices_from c.words c.faulty) ≡ whole → listed_at With c ≡ Ok (Some word, left) → name_found word ≡ Ok d → name_at left ≡ Err kind → whole ≡ Err kind
+    → with_front front (choices_from c.words c.faulty) ≡ whole → listed_at With c ≡ Ok (Some word, left) → name_found word ≡ Ok d
+    → name_at left ≡ Err kind → whole ≡ Err kind
 unfolding listed_at name_at word_at
 choice_stops_second c left front word d whole kind so_far h first second =
     let next = next_word With c.words c.faulty word left h in
-    let refused : choices_from c.words c.faulty ≡ Err kind = rw (next.words_are, sym next.flag) (second_bad word left.words left.faulty d kind next.goes_on first second) in
+    let refused : choices_from c.words c.faulty ≡ Err kind =
+    rw (next.words_are, sym next.flag) (second_bad word left.words left.faulty d kind next.goes_on first second) in
     sym so_far ∙ ap (with_front front) refused
 
-pub choices_over : (words : List (List ℕ)) (faulty : Bool) (left : Cursor) → listed_from With words faulty ≡ Ok (None, left) → choices_from words faulty ≡ Ok ([], left)
+pub choices_over : (words : List (List ℕ)) (faulty : Bool) (left : Cursor) → listed_from With words faulty ≡ Ok (None, left)
+    → choices_from words faulty ≡ Ok ([], left)
 unfolding choices_from
 choices_over [] faulty left h = cc
 choices_over (first ∷ []) faulty left h = of (ends_list With first) refl h
   where
-    of : (b : Bool) → ends_list With first ≡ b → good_pair (cond b None (Some first)) (record { words = []; faulty = faulty }) ≡ good_pair None left → choices_from (first ∷ []) faulty ≡ Ok ([], left)
+    of : (b : Bool) → ends_list With first ≡ b → good_pair (cond b None (Some first)) (record { words = []; faulty = faulty })
+        ≡ good_pair None left → choices_from (first ∷ []) faulty ≡ Ok ([], left)
     of true e h = rw e (ap (λ (l : Cursor). Ok ([], l)) (ok_pair h).1)
     of false e h = let none : Some first ≡ None = (ok_pair h).0 in cc
 choices_over (first ∷ next ∷ words) faulty left h = of (ends_list With first) refl h
   where
-    of : (b : Bool) → ends_list With first ≡ b → good_pair (cond b None (Some first)) (record { words = next ∷ words; faulty = faulty }) ≡ good_pair None left → choices_from (first ∷ next ∷ words) faulty ≡ Ok ([], left)
+    of : (b : Bool) → ends_list With first ≡ b → good_pair (cond b None (Some first)) (record { words = next ∷ words; faulty = faulty })
+        ≡ good_pair None left → choices_from (first ∷ next ∷ words) faulty ≡ Ok ([], left)
     of true e h = rw e (ap (λ (l : Cursor). Ok ([], l)) (ok_pair h).1)
     of false e h = let none : Some first ≡ None = (ok_pair h).0 in cc
 
-pub choices_end : (c left : Cursor) (front : List Choice) (whole : Result (List Choice × Cursor) Bad) → with_front front (choices_from c.words c.faulty) ≡ whole → listed_at With c ≡ Ok (None, left) → whole ≡ Ok (front, left)
+pub choices_end : (c left : Cursor) (front : List Choice) (whole : Result (List Choice × Cursor) Bad)
+    → with_front front (choices_from c.words c.faulty) ≡ whole → listed_at With c ≡ Ok (None, left) → whole ≡ Ok (front, left)
 unfolding listed_at
 choices_end c left front whole so_far h =
     sym so_far ∙ ap (with_front front) (choices_over c.words c.faulty left h) ∙ ap (λ (xs : List _). Ok (xs, left)) (append-nil front)
@@ -233,11 +265,13 @@ unfolding choices_from
 choices_bad [] faulty kind h = let bad : bad ≡ kind = cc in ap Err bad
 choices_bad (first ∷ words) faulty kind h = cc
 
-pub choices_stop : (c : Cursor) (front : List Choice) (whole : Result (List Choice × Cursor) Bad) (kind : Bad) → with_front front (choices_from c.words c.faulty) ≡ whole → listed_at With c ≡ Err kind → whole ≡ Err kind
+pub choices_stop : (c : Cursor) (front : List Choice) (whole : Result (List Choice × Cursor) Bad) (kind : Bad)
+    → with_front front (choices_from c.words c.faulty) ≡ whole → listed_at With c ≡ Err kind → whole ≡ Err kind
 unfolding listed_at
 choices_stop c front whole kind so_far h = sym so_far ∙ ap (with_front front) (choices_bad c.words c.faulty kind h)
 
-pub fewer_choices : (c left now : Cursor) (word proc : List ℕ) → listed_at With c ≡ Ok (Some word, left) → name_at left ≡ Ok (proc, now) → length now.words < length c.words
+pub fewer_choices : (c left now : Cursor) (word proc : List ℕ) → listed_at With c ≡ Ok (Some word, left) → name_at left ≡ Ok (proc, now)
+    → length now.words < length c.words
 unfolding name_at word_at
 fewer_choices c left now word proc h second =
     let fewer = fewer_words With c left word h in

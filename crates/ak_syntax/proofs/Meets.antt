@@ -10,7 +10,8 @@ abbrev pub Meets : Bool → List Place → List (List ℕ) → Bool → Type 0
 Meets before [] [] after = after ≡ before
 Meets before [] (word ∷ words) after = ⊥
 Meets before (place ∷ places) [] after = ⊥
-Meets before (place ∷ places) (word ∷ words) after = (Stands place word × Meets before places words after) ⊎ (IsFaulty place word × HasZero place × Meets true places words after)
+Meets before (place ∷ places) (word ∷ words) after = (Stands place word × Meets before places words after)
+    ⊎ (IsFaulty place word × HasZero place × Meets true places words after)
 
 -- one word at its place, and whether it is faulty
 abbrev pub Case : Bool → Place → List ℕ → Type 0
@@ -43,7 +44,8 @@ meets_fits before (place ∷ places) [] after h = absurd h
 meets_fits before (place ∷ places) (word ∷ words) after (inl h) = (inl h.0, meets_fits before places words after h.1)
 meets_fits before (place ∷ places) (word ∷ words) after (inr h) = (inr (h.0, h.1), meets_fits true places words after h.2)
 
-one_fits : (before : Bool) (place : Place) (word : List ℕ) (places : List Place) (words : List (List ℕ)) → Fits place word → ((b : Bool) → (after : Bool) × Meets b places words after)
+one_fits : (before : Bool) (place : Place) (word : List ℕ) (places : List Place) (words : List (List ℕ)) → Fits place word
+    → ((b : Bool) → (after : Bool) × Meets b places words after)
     → (after : Bool) × Meets before (place ∷ places) (word ∷ words) after
 one_fits before place word places words (inl s) rest = let r = rest before in (r.0, inl (s, r.1))
 one_fits before place word places words (inr f) rest = let r = rest true in (r.0, inr (f.0, f.1, r.1))

@@ -41,7 +41,8 @@ written word h = let parts = and_true (list_all is_digit (without_minus word)) (
 pub writing : (word : List ℕ) (n : ℤ) → Writes word n → FitsSigned w64 n → is_written word ≡ true
 writing word n h fits =
     let small : FitsSigned w64 (signed_value word) = rw (h.1) fits in
-    all_true (list_all is_digit (without_minus word)) (nat_lt 0 (length (without_minus word))) (fits_i64 word) (h.0.1) (grind arith) (then_fits (has_minus word) (digits_value (without_minus word)) small)
+    all_true (list_all is_digit (without_minus word)) (nat_lt 0 (length (without_minus word))) (fits_i64 word) (h.0.1) (grind arith)
+    (then_fits (has_minus word) (digits_value (without_minus word)) small)
 
 pub number_some : (word : List ℕ) (n : ℤ) → Writes word n → FitsSigned w64 n → number_of word ≡ Some n
 unfolding number_of
@@ -66,6 +67,7 @@ no_number word h = of (number_of word) refl
     of (Some n) e = let r = number_reads word n e in absurd (h n r.1 r.0)
 
 -- what reading a number gives
-pub number_is : (word : List ℕ) (o : Option ℤ) → MatchOption o ((n : ℤ) → FitsSigned w64 n → Writes word n → ⊥) (λ n. Writes word n) → IfSome o (λ n. FitsSigned w64 n) → o ≡ number_of word
+pub number_is : (word : List ℕ) (o : Option ℤ) → MatchOption o ((n : ℤ) → FitsSigned w64 n → Writes word n → ⊥) (λ n. Writes word n)
+    → IfSome o (λ n. FitsSigned w64 n) → o ≡ number_of word
 number_is word None h fits = sym (no_number word h)
 number_is word (Some n) h fits = sym (number_some word n h fits)

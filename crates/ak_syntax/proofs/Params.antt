@@ -51,7 +51,8 @@ name_bytes name h = grind arith
 
 -- a parameter's word has its name before the first colon, and the word of its kind behind
 typed_split : (name rest : List ℕ) → list_all is_name_byte name ≡ true
-    → (Some (length name) ≡ position is_colon (name ++ 58 ∷ rest)) × (take (length name) (name ++ 58 ∷ rest) ≡ name) × (drop (length name + 1) (name ++ 58 ∷ rest) ≡ rest)
+    → (Some (length name) ≡ position is_colon (name ++ 58 ∷ rest)) × (take (length name) (name ++ 58 ∷ rest) ≡ name)
+    × (drop (length name + 1) (name ++ 58 ∷ rest) ≡ rest)
 typed_split name rest h =
     let at : position_or_len is_colon (name ++ 58 ∷ rest) ≡ length name = colon_after name rest h in
     let below : length name < length (name ++ 58 ∷ rest) = omega (arith, length-append name (58 ∷ rest)) in

@@ -95,7 +95,8 @@ all_formed : (v : Version) (procs : List Proc) → AllByRecursion (ProcIsWithin 
 all_formed v [] h = tt
 all_formed v (proc ∷ procs) h = (formed_of v proc.body h.0.each, all_formed v procs h.1)
 
-pub found_formed : (bytes : List ℕ) (procs : List Proc) → length bytes ≤ 1048576 → scanned no_lines 0 (text_lines bytes) ≡ Ok procs → AllByRecursion ProcIsFormed procs
+pub found_formed : (bytes : List ℕ) (procs : List Proc) → length bytes ≤ 1048576 → scanned no_lines 0 (text_lines bytes) ≡ Ok procs
+    → AllByRecursion ProcIsFormed procs
 found_formed bytes procs size is =
     let reads : Reads bytes procs = subst (RightOf bytes) is (found_right bytes size) in
     all_formed reads.of_version procs reads.each
@@ -107,9 +108,11 @@ reads_found bytes script h =
 
 fault_found : (bytes : List ℕ) (number : ℕ) (kind : GrammarKind) → HasFaultAt bytes number kind → walked bytes ≡ Err (number, kind)
 fault_found bytes number kind h =
-    let counted : counts h.line ≡ true = all_between (λ line. counts line ≡ true) h.before h.after h.line (subst AllCount h.lines (all_count (text_lines bytes))) in
+    let counted : counts h.line ≡ true =
+    all_between (λ line. counts line ≡ true) h.before h.after h.line (subst AllCount h.lines (all_count (text_lines bytes))) in
     ap (walk no_lines) h.lines ∙ walk_append h.before (h.line ∷ h.after) no_lines h.front (front_walked h.front h.before h.right)
-    ∙ ap (λ (r : Result Front GrammarKind). walk_next h.line.number r (λ n. walk n h.after)) (fault_is h.front h.line kind counted h.fault) ∙ ap (λ (n : ℕ). placed n kind) (sym h.at)
+    ∙ ap (λ (r : Result Front GrammarKind). walk_next h.line.number r (λ n. walk n h.after))
+    (fault_is h.front h.line kind counted h.fault) ∙ ap (λ (n : ℕ). placed n kind) (sym h.at)
   where
     placed : ℕ → GrammarKind → Result Front Placed
     placed n k = Err (n, k)
@@ -117,18 +120,21 @@ fault_found bytes number kind h =
 end_found : (bytes : List ℕ) (number : ℕ) (kind : GrammarKind) → EndsInside bytes number kind → scanned no_lines 0 (text_lines bytes) ≡ Err (number, kind)
 end_found bytes number kind h =
     scan_is bytes ∙ ap (closed (length (text_lines bytes))) (front_walked h.front (kept bytes) h.right)
-    ∙ ap (closed_by (length (text_lines bytes)) h.front.procs) h.begun ∙ ap (λ (n : ℕ). script_fault n BadLine) (sym h.at) ∙ ap (script_fault number) (sym h.is_bad)
+    ∙ ap (closed_by (length (text_lines bytes)) h.front.procs) h.begun ∙ ap (λ (n : ℕ). script_fault n BadLine) (sym h.at)
+    ∙ ap (script_fault number) (sym h.is_bad)
   where
     script_fault : ℕ → GrammarKind → Result (List Proc) Placed
     script_fault n k = Err (n, k)
 
-pub faults_found : (bytes : List ℕ) (number : ℕ) (kind : GrammarKind) → length bytes ≤ 1048576 → GrammarFault bytes number kind → scanned no_lines 0 (text_lines bytes) ≡ Err (number, kind)
+pub faults_found : (bytes : List ℕ) (number : ℕ) (kind : GrammarKind) → length bytes ≤ 1048576 → GrammarFault bytes number kind
+    → scanned no_lines 0 (text_lines bytes) ≡ Err (number, kind)
 faults_found bytes number kind size (inl h) = absurd (omega (arith, h.size, size))
 faults_found bytes number kind size (inr (s, inl h)) = scan_is bytes ∙ ap (closed (length (text_lines bytes))) (fault_found bytes number kind h)
 faults_found bytes number kind size (inr (s, inr h)) = end_found bytes number kind h
 
 -- ---- answers
-pub tells_right : (bytes : List ℕ) (r : Result (List Proc) ParseRefused) (found : Result (List Proc) Placed) → Tells r found → RightOf bytes found → IsRight bytes r
+pub tells_right : (bytes : List ℕ) (r : Result (List Proc) ParseRefused) (found : Result (List Proc) Placed) → Tells r found
+    → RightOf bytes found → IsRight bytes r
 tells_right bytes (Ok script) found h right = subst (RightOf bytes) h right
 tells_right bytes (Err (At line kind)) found h right = (h.0, h.1, subst (RightOf bytes) h.2 right)
 tells_right bytes (Err NoMemory) found h right = tt
@@ -142,12 +148,14 @@ place_is e = cc
 not_both : (a : List Proc) (p : Placed) → (let r : Result (List Proc) Placed = Ok a in r ≡ Err p) → ⊥
 not_both a p e = cc
 
-pub tells_script : (r : Result (List Proc) ParseRefused) (found : Result (List Proc) Placed) (script : List Proc) → Tells r found → found ≡ Ok script → IsScript r script
+pub tells_script : (r : Result (List Proc) ParseRefused) (found : Result (List Proc) Placed) (script : List Proc) → Tells r found
+    → found ≡ Ok script → IsScript r script
 tells_script (Ok other) found script h is = script_is (sym h ∙ is)
 tells_script (Err (At line kind)) found script h is = not_both script (line, h.0) (sym is ∙ h.2)
 tells_script (Err NoMemory) found script h is = tt
 
-pub tells_fault : (r : Result (List Proc) ParseRefused) (found : Result (List Proc) Placed) (line : ℕ) (kind : GrammarKind) → Tells r found → found ≡ Err (line, kind) → IsFault r line kind
+pub tells_fault : (r : Result (List Proc) ParseRefused) (found : Result (List Proc) Placed) (line : ℕ) (kind : GrammarKind)
+    → Tells r found → found ≡ Err (line, kind) → IsFault r line kind
 tells_fault (Ok script) found line kind h is = not_both script (line, kind) (sym h ∙ is)
 tells_fault (Err (At at number)) found line kind h is =
     let same = place_is (sym h.2 ∙ is) in

@@ -33,10 +33,12 @@ head_is e = cc
 tail_is : {a b : TextLine} {xs ys : List TextLine} → a ∷ xs ≡ b ∷ ys → xs ≡ ys
 tail_is e = cc
 
-pub numbered_next : (last : ℕ) (left rest : List TextLine) (line : TextLine) (bytes : List ℕ) → AreNumbered last left bytes → left ≡ line ∷ rest → AreNumbered line.number rest bytes × (line.number ≡ last + 1)
+pub numbered_next : (last : ℕ) (left rest : List TextLine) (line : TextLine) (bytes : List ℕ) → AreNumbered last left bytes
+    → left ≡ line ∷ rest → AreNumbered line.number rest bytes × (line.number ≡ last + 1)
 numbered_next last left rest line bytes h is = of h.0 (sym is ∙ h.1) h.2
   where
-    of : (lines : List (List ℕ)) → line ∷ rest ≡ numbered (last + 1) lines → last + length lines ≤ length bytes → AreNumbered line.number rest bytes × (line.number ≡ last + 1)
+    of : (lines : List (List ℕ)) → line ∷ rest ≡ numbered (last + 1) lines → last + length lines ≤ length bytes
+        → AreNumbered line.number rest bytes × (line.number ≡ last + 1)
     of [] e few = cc
     of (text ∷ lines) e few =
         let first : line ≡ _ = head_is e in
@@ -47,7 +49,8 @@ numbered_next last left rest line bytes h is = of h.0 (sym is ∙ h.1) h.2
 pub refused_tells : (front : Front) (last : ℕ) (left rest : List TextLine) (line : TextLine) (fault : Fault) (whole : Result (List Proc) Placed)
     → scanned front last left ≡ whole → left ≡ line ∷ rest → Refuses fault (taken front line) → Tells (Err (refused_of line.number fault)) whole
 unfolding scanned
-refused_tells front last left rest line (Grammar kind) whole same is h = (kind, refl, sym same ∙ ap (λ (ls : List TextLine). scanned front last ls) is ∙ rw h refl)
+refused_tells front last left rest line (Grammar kind) whole same is h =
+    (kind, refl, sym same ∙ ap (λ (ls : List TextLine). scanned front last ls) is ∙ rw h refl)
 refused_tells front last left rest line NoMemory whole same is h = tt
 
 pub next_scanned : (front next : Front) (last : ℕ) (left rest : List TextLine) (line : TextLine) (whole : Result (List Proc) Placed)
@@ -57,7 +60,8 @@ next_scanned front next last left rest line whole same is h =
     let step : scanned front last (line ∷ rest) ≡ scanned next line.number rest = rw h refl in
     sym step ∙ ap (λ (ls : List TextLine). scanned front last ls) (sym is) ∙ same
 
-pub closed_tells : (front : Front) (last : ℕ) (left : List TextLine) (whole : Result (List Proc) Placed) → scanned front last left ≡ whole → left ≡ [] → is_some front.begun ≡ false → whole ≡ Ok front.procs
+pub closed_tells : (front : Front) (last : ℕ) (left : List TextLine) (whole : Result (List Proc) Placed) → scanned front last left ≡ whole
+    → left ≡ [] → is_some front.begun ≡ false → whole ≡ Ok front.procs
 unfolding scanned
 closed_tells front last left whole same none closed = sym same ∙ ap (λ (ls : List TextLine). scanned front last ls) none ∙ of front.begun closed
   where
@@ -65,7 +69,8 @@ closed_tells front last left whole same none closed = sym same ∙ ap (λ (ls : 
     of None e = refl
     of (Some p) e = cc
 
-pub open_tells : (front : Front) (last : ℕ) (left : List TextLine) (whole : Result (List Proc) Placed) → scanned front last left ≡ whole → left ≡ [] → is_some front.begun ≡ true → whole ≡ Err (last + 1, BadLine)
+pub open_tells : (front : Front) (last : ℕ) (left : List TextLine) (whole : Result (List Proc) Placed) → scanned front last left ≡ whole
+    → left ≡ [] → is_some front.begun ≡ true → whole ≡ Err (last + 1, BadLine)
 unfolding scanned
 open_tells front last left whole same none opened = sym same ∙ ap (λ (ls : List TextLine). scanned front last ls) none ∙ of front.begun opened
   where

@@ -54,7 +54,8 @@ not_number word stop h none = of (bytes_eq word stop) refl
 named_is : (word name : List ℕ) → Stands (Named name) word → is_name word ≡ true
 named_is word name h = subst (λ (w : List ℕ). is_name w ≡ true) (sym h.0) h.1
 
-atom_other : (stop : List ℕ) → is_name stop ≡ false → is_number_word stop ≡ false → (word : List ℕ) (a : Atom) (b : Bool) → Case b (Valued a) word → bytes_eq word stop ≡ false
+atom_other : (stop : List ℕ) → is_name stop ≡ false → is_number_word stop ≡ false → (word : List ℕ) (a : Atom) (b : Bool)
+    → Case b (Valued a) word → bytes_eq word stop ≡ false
 atom_other stop name number word (Literal n) false h = not_number word stop (is_number word n h.1) number
 atom_other stop name number word (Literal n) true h = not_number word stop h.0.0 number
 atom_other stop name number word (Local n) false h = not_name word stop (named_is word n h) name
@@ -68,7 +69,8 @@ else_part : IsPart (Always {T = List Atom}) (λ (xs : List Atom) (places : List 
 else_part = list_part Valued atom_found Else (codes "else") atom_item
     (record { inside = refl; found = λ word e. (bytes_eq-Decides word (codes "else")).0 e; there = refl; other = atom_other (codes "else") refl refl })
 
-pub then_part : IsPart (λ (xs : List (List ℕ)). 1 ≤ length xs) (λ (xs : List (List ℕ)) (places : List Place). map Named xs ++ Exactly (codes "then") ∷ places) (some_names_at Then)
+pub then_part : IsPart (λ (xs : List (List ℕ)). 1 ≤ length xs) (λ (xs : List (List ℕ)) (places : List Place). map Named xs
+    ++ Exactly (codes "then") ∷ places) (some_names_at Then)
 then_part = filled_part (list_part Named (plain name_found) Then (codes "then") (plain_item Named name_found name_plain)
     (record { inside = refl; found = λ word e. (bytes_eq-Decides word (codes "then")).0 e; there = refl; other = name_other (codes "then") refl }))
 
@@ -86,7 +88,8 @@ abbrev choice_first : List ℕ → List (List ℕ) → Bool → List ℕ → Res
 choice_first next words faulty d = name_found next >>= choice_second d words faulty
 
 alone : (word : List ℕ) (faulty : Bool) (left : Cursor) (xs : List Choice) (places : List Place) (after : Bool) → Meets left.faulty places left.words after
-    → ((ends_list With word ≡ true) × (good_pair [] (record { words = []; faulty = faulty }) ≡ good_pair xs left)) ⊎ ((ends_list With word ≡ false) × (Err bad ≡ good_pair xs left))
+    → ((ends_list With word ≡ true) × (good_pair [] (record { words = []; faulty = faulty }) ≡ good_pair xs left))
+    ⊎ ((ends_list With word ≡ false) × (Err bad ≡ good_pair xs left))
     → Meets faulty (choices_shape xs places) (word ∷ []) after
 alone word faulty left xs places after m (inl e) =
     let same = ok_pair e.1 in
@@ -94,9 +97,12 @@ alone word faulty left xs places after m (inl e) =
     (inl ((bytes_eq-Decides word (codes "with")).0 e.0, subst (λ (l : Cursor). Meets l.faulty places l.words after) (sym same.1) m))
 alone word faulty left xs places after m (inr e) = let wrong : Err bad ≡ good_pair xs left = e.1 in absurd cc
 
-one_choice : (word next : List ℕ) (words : List (List ℕ)) (faulty : Bool) (left : Cursor) (xs : List Choice) (places : List Place) (after : Bool) → Meets left.faulty places left.words after
-    → ((read : List Choice × Cursor) → choices_from words faulty ≡ Ok (read.0, read.1) → (ps : List Place) (a : Bool) → Meets read.1.faulty ps read.1.words a → Meets faulty (choices_shape read.0 ps) words a)
-    → ((ends_list With word ≡ true) × (good_pair [] (record { words = next ∷ words; faulty = faulty }) ≡ good_pair xs left)) ⊎ ((ends_list With word ≡ false) × ((name_found word >>= choice_first next words faulty) ≡ good_pair xs left))
+one_choice : (word next : List ℕ) (words : List (List ℕ)) (faulty : Bool) (left : Cursor) (xs : List Choice) (places : List Place)
+    (after : Bool) → Meets left.faulty places left.words after
+    → ((read : List Choice × Cursor) → choices_from words faulty ≡ Ok (read.0, read.1) → (ps : List Place) (a : Bool)
+    → Meets read.1.faulty ps read.1.words a → Meets faulty (choices_shape read.0 ps) words a)
+    → ((ends_list With word ≡ true) × (good_pair [] (record { words = next ∷ words; faulty = faulty }) ≡ good_pair xs left))
+    ⊎ ((ends_list With word ≡ false) × ((name_found word >>= choice_first next words faulty) ≡ good_pair xs left))
     → Meets faulty (choices_shape xs places) (word ∷ next ∷ words) after
 one_choice word next words faulty left xs places after m rest (inl e) =
     let same = ok_pair e.1 in
@@ -107,7 +113,8 @@ one_choice word next words faulty left xs places after m rest (inr e) =
     let y = bind_ok (name_found next) (choice_second x.0 words faulty) (xs, left) x.2 in
     let z = bind_ok (choices_from words faulty) (choice_in x.0 y.0) (xs, left) y.2 in
     let same = ok_pair z.2 in
-    let more : Meets faulty (choices_shape z.0.0 places) words after = rest z.0 z.1 places after (subst (λ (l : Cursor). Meets l.faulty places l.words after) (sym same.1) m) in
+    let more : Meets faulty (choices_shape z.0.0 places) words after =
+    rest z.0 z.1 places after (subst (λ (l : Cursor). Meets l.faulty places l.words after) (sym same.1) m) in
     subst (λ (ys : List Choice). Meets faulty (choices_shape ys places) (word ∷ next ∷ words) after) same.0
     (inl (name_plain.sound word x.0 x.1, inl (name_plain.sound next y.0 y.1, more)))
 
@@ -116,13 +123,16 @@ choices_sound : (words : List (List ℕ)) (faulty : Bool) (left : Cursor) (xs : 
 unfolding choices_from
 choices_sound [] faulty left xs h places after m = cc
 choices_sound (word ∷ []) faulty left xs h places after m =
-    alone word faulty left xs places after m (chosen (ends_list With word) (good_pair [] (record { words = []; faulty = faulty })) (Err bad) (good_pair xs left) h)
+    alone word faulty left xs places after m
+    (chosen (ends_list With word) (good_pair [] (record { words = []; faulty = faulty })) (Err bad) (good_pair xs left) h)
 choices_sound (word ∷ next ∷ words) faulty left xs h places after m =
     one_choice word next words faulty left xs places after m (λ read. choices_sound words faulty read.1 read.0)
-    (chosen (ends_list With word) (good_pair [] (record { words = next ∷ words; faulty = faulty })) (name_found word >>= choice_first next words faulty) (good_pair xs left) h)
+    (chosen (ends_list With word) (good_pair [] (record { words = next ∷ words; faulty = faulty }))
+    (name_found word >>= choice_first next words faulty) (good_pair xs left) h)
 
 choices_complete : (words : List (List ℕ)) (faulty : Bool) (xs : List Choice) (places : List Place) (after : Bool)
-    → Meets faulty (choices_shape xs places) words after → (left : Cursor) × (choices_from words faulty ≡ Ok (xs, left)) × Meets left.faulty places left.words after
+    → Meets faulty (choices_shape xs places) words after → (left : Cursor) × (choices_from words faulty ≡ Ok (xs, left))
+    × Meets left.faulty places left.words after
 unfolding choices_from
 choices_complete [] faulty [] places after m = absurd m
 choices_complete [] faulty (x ∷ xs) places after m = absurd m
@@ -134,15 +144,21 @@ choices_complete (word ∷ []) faulty (x ∷ xs) places after (inl m) = absurd m
 choices_complete (word ∷ []) faulty (x ∷ xs) places after (inr m) = absurd m.0
 choices_complete (word ∷ next ∷ words) faulty [] places after (inr m) = absurd m.0
 choices_complete (word ∷ next ∷ words) faulty [] places after (inl m) =
-    let here : ends_list With word ≡ true = (bytes_eq-Decides word (codes "with")).1 m.0 in
-    (record { words = next ∷ words; faulty = faulty }, if_so (ends_list With word) (good_pair [] (record { words = next ∷ words; faulty = faulty })) (name_found word >>= choice_first next words faulty) here, m.1)
+    let here : ends_list With word ≡ true = (bytes_eq-Decides word (codes "with")).1 m.0 in (
+      record { words = next ∷ words; faulty = faulty },
+      if_so (ends_list With word)
+          (good_pair [] (record { words = next ∷ words; faulty = faulty })) (name_found word >>= choice_first next words faulty) here,
+      m.1,
+    )
 choices_complete (word ∷ next ∷ words) faulty (x ∷ xs) places after (inr m) = absurd m.0
 choices_complete (word ∷ next ∷ words) faulty (x ∷ xs) places after (inl (d, inr m)) = absurd m.0
 choices_complete (word ∷ next ∷ words) faulty (x ∷ xs) places after (inl (d, inl m)) =
     let r = choices_complete words faulty xs places after m.1 in (
       r.0,
-      if_not (ends_list With word) (good_pair [] (record { words = next ∷ words; faulty = faulty })) (name_found word >>= choice_first next words faulty) (name_other (codes "with") refl word x.d false d)
-          ∙ bind_is (name_found word) (choice_first next words faulty) x.d (name_plain.complete word x.d d) ∙ bind_is (name_found next) (choice_second x.d words faulty) x.proc (name_plain.complete next x.proc m.0)
+      if_not (ends_list With word) (good_pair [] (record { words = next ∷ words; faulty = faulty }))
+          (name_found word >>= choice_first next words faulty) (name_other (codes "with") refl word x.d false d)
+          ∙ bind_is (name_found word) (choice_first next words faulty) x.d (name_plain.complete word x.d d)
+          ∙ bind_is (name_found next) (choice_second x.d words faulty) x.proc (name_plain.complete next x.proc m.0)
           ∙ bind_is (choices_from words faulty) (choice_in x.d x.proc) (xs, r.0) r.1,
       r.2,
     )
@@ -154,8 +170,13 @@ choices_part = filled_part (record {
 })
 
 -- ---- the last words of rows
-abbrev trivial : {T : Type 0} {good : T → Type 0} {shape : T → List Place} {part : Part T} → IsLast good shape part → ((t : T) → good t) → IsLast (Always {T = T}) shape part
-trivial {T} {good} {shape} {part} p all = record { sound = λ c left t h. (tt, (p.sound c left t h).1); complete = λ c t after g m. p.complete c t after (all t) m }
+abbrev trivial : {T : Type 0} {good : T → Type 0} {shape : T → List Place} {part : Part T} → IsLast good shape part → ((t : T) → good t)
+    → IsLast (Always {T = T}) shape part
+trivial {T} {good} {shape} {part} p all = record {
+  sound = λ c left t h. (tt, (p.sound c left t h).1);
+  complete =
+      λ c t after g m. p.complete c t after (all t) m;
+}
 
 pub one_name_last : IsLast (Always {T = List ℕ}) (λ (n : List ℕ). Named n ∷ []) one_name_at
 unfolding one_name_at
@@ -167,15 +188,21 @@ one_atom_last = trivial (mapped_last (λ t. t.0) (λ n. (n, tt)) (λ t. refl) (�
 
 pub name_atom_last : IsLast (Always {T = List ℕ × Atom}) (λ (t : List ℕ × Atom). Named t.0 ∷ Valued t.1 ∷ []) name_atom_at
 unfolding name_atom_at
-name_atom_last = trivial (mapped_last (λ t. (t.0, t.1.0)) (λ n. (n.0, (n.1, tt))) (λ t. refl) (λ n. refl) (both_last name_part (both_last atom_part end_last))) (λ t. (tt, (tt, tt)))
+name_atom_last = trivial
+    (mapped_last (λ t. (t.0, t.1.0)) (λ n. (n.0, (n.1, tt))) (λ t. refl) (λ n. refl) (both_last name_part (both_last atom_part end_last)))
+    (λ t. (tt, (tt, tt)))
 
 pub two_names_last : IsLast (Always {T = List ℕ × List ℕ}) (λ (t : List ℕ × List ℕ). Named t.0 ∷ Named t.1 ∷ []) two_names_at
 unfolding two_names_at
-two_names_last = trivial (mapped_last (λ t. (t.0, t.1.0)) (λ n. (n.0, (n.1, tt))) (λ t. refl) (λ n. refl) (both_last name_part (both_last name_part end_last))) (λ t. (tt, (tt, tt)))
+two_names_last = trivial
+    (mapped_last (λ t. (t.0, t.1.0)) (λ n. (n.0, (n.1, tt))) (λ t. refl) (λ n. refl) (both_last name_part (both_last name_part end_last)))
+    (λ t. (tt, (tt, tt)))
 
 pub work_atom_last : IsLast (Always {T = WorkWord × Atom}) (λ (t : WorkWord × Atom). Exactly (work_word t.0) ∷ Valued t.1 ∷ []) work_atom_at
 unfolding work_atom_at
-work_atom_last = trivial (mapped_last (λ t. (t.0, t.1.0)) (λ n. (n.0, (n.1, tt))) (λ t. refl) (λ n. refl) (both_last work_part (both_last atom_part end_last))) (λ t. (tt, (tt, tt)))
+work_atom_last = trivial
+    (mapped_last (λ t. (t.0, t.1.0)) (λ n. (n.0, (n.1, tt))) (λ t. refl) (λ n. refl) (both_last work_part (both_last atom_part end_last)))
+    (λ t. (tt, (tt, tt)))
 
 pub call_last : IsLast (Always {T = List ℕ × List Atom}) (λ (t : List ℕ × List Atom). Named t.0 ∷ map Valued t.1) call_at
 unfolding call_at
@@ -186,7 +213,9 @@ two_calls_shape t = Named t.0 ∷ (map Valued t.1 ++ Exactly (codes "else") ∷ 
 
 pub two_calls_last : IsLast (Always {T = List ℕ × List Atom × List ℕ × List Atom}) two_calls_shape two_calls_at
 unfolding two_calls_at
-two_calls_last = trivial (mapped_last (λ t. (t.0, t.1.0, t.1.1.0, t.1.1.1)) (λ n. (n.0, (n.1, (n.2, n.3)))) (λ t. refl) (λ n. refl) (both_last name_part (both_last else_part (both_last name_part args_last)))) (λ t. (tt, (tt, (tt, tt))))
+two_calls_last = trivial
+    (mapped_last (λ t. (t.0, t.1.0, t.1.1.0, t.1.1.1)) (λ n. (n.0, (n.1, (n.2, n.3)))) (λ t. refl) (λ n. refl)
+    (both_last name_part (both_last else_part (both_last name_part args_last)))) (λ t. (tt, (tt, (tt, tt))))
 
 -- ---- the arguments of a guard
 abbrev Guarded : Type 0
@@ -291,18 +320,21 @@ abbrev pub IsRowOf : List ℕ → Cursor → Stmt → Cursor → Type 0
 IsRowOf word c s left = HasDeferreds s × Meets c.faulty (row s) (word ∷ c.words) left.faulty
 
 pub row_sound : {A : Type 0} (f : A → Stmt) (word : List ℕ) {good : A → Type 0} {shape : A → List Place} {part : Part A} → IsLast good shape part
-    → ((a : A) → row (f a) ≡ Exactly word ∷ shape a) → ((a : A) → good a → HasDeferreds (f a)) → (c left : Cursor) (s : Stmt) → mapped f part c ≡ Ok (s, left) → IsRowOf word c s left
+    → ((a : A) → row (f a) ≡ Exactly word ∷ shape a) → ((a : A) → good a → HasDeferreds (f a)) → (c left : Cursor) (s : Stmt)
+    → mapped f part c ≡ Ok (s, left) → IsRowOf word c s left
 row_sound {A} f word {good} {shape} {part} p is has c left s h =
     let x = bind_ok (part c) (image f) (s, left) h in
     let same = ok_pair x.2 in
     let r = p.sound c x.0.1 x.0.0 x.1 in
-    let met : Meets c.faulty (row (f x.0.0)) (word ∷ c.words) x.0.1.faulty = subst (λ (ps : List Place). Meets c.faulty ps (word ∷ c.words) x.0.1.faulty) (sym (is x.0.0)) (inl (refl, r.1)) in
+    let met : Meets c.faulty (row (f x.0.0)) (word ∷ c.words) x.0.1.faulty =
+    subst (λ (ps : List Place). Meets c.faulty ps (word ∷ c.words) x.0.1.faulty) (sym (is x.0.0)) (inl (refl, r.1)) in
     let first : IsRowOf word c (f x.0.0) x.0.1 = (has x.0.0 r.0, met) in
     let second : IsRowOf word c s x.0.1 = subst (λ (v : Stmt). IsRowOf word c v x.0.1) same.0 first in
     subst (λ (l : Cursor). IsRowOf word c s l) same.1 second
 
 pub row_complete : {A : Type 0} (f : A → Stmt) (word : List ℕ) {good : A → Type 0} {shape : A → List Place} {part : Part A} → IsLast good shape part
-    → (t : A) (w : List ℕ) (c : Cursor) (after : Bool) → statement_at word c ≡ mapped f part c → good t → Meets c.faulty (Exactly word ∷ shape t) (w ∷ c.words) after
+    → (t : A) (w : List ℕ) (c : Cursor) (after : Bool) → statement_at word c ≡ mapped f part c → good t
+    → Meets c.faulty (Exactly word ∷ shape t) (w ∷ c.words) after
     → (left : Cursor) × (statement_at w c ≡ Ok (f t, left)) × (left.faulty ≡ after)
 row_complete f word p t w c after is g (inr m) = absurd m.0
 row_complete {A} f word {good} {shape} {part} p t w c after is g (inl m) =

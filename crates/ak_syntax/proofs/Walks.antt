@@ -47,17 +47,21 @@ scanned_walk [] front last = refl
 scanned_walk (line ∷ lines) front last = of (taken front line) (λ next. scanned_walk lines next line.number)
   where
     of : (r : Result Front GrammarKind) → ((next : Front) → scanned next line.number lines ≡ closed (last_number line.number lines) (walk next lines))
-        → then_lines line.number r (λ next. scanned next line.number lines) ≡ closed (last_number line.number lines) (walk_next line.number r (λ next. walk next lines))
+        → then_lines line.number r (λ next. scanned next line.number lines) ≡ closed (last_number line.number lines)
+        (walk_next line.number r (λ next. walk next lines))
     of (Ok next) h = h next
     of (Err kind) h = refl
 
-one_kept : (line : TextLine) (lines : List TextLine) (front : Front) (b : Bool) → counts line ≡ b → ((next : Front) → walk next lines ≡ walk next (filter counts lines)) → walk front (line ∷ lines) ≡ walk front (filter counts (line ∷ lines))
+one_kept : (line : TextLine) (lines : List TextLine) (front : Front) (b : Bool) → counts line ≡ b
+    → ((next : Front) → walk next lines ≡ walk next (filter counts lines)) → walk front (line ∷ lines)
+    ≡ walk front (filter counts (line ∷ lines))
 one_kept line lines front true e ih = rw e (of (taken front line))
   where
     of : (r : Result Front GrammarKind) → walk_next line.number r (λ next. walk next lines) ≡ walk_next line.number r (λ next. walk next (filter counts lines))
     of (Ok next) = ih next
     of (Err kind) = refl
-one_kept line lines front false e ih = rw e (ap (λ (r : Result Front GrammarKind). walk_next line.number r (λ n. walk n lines)) (line_skipped front line e) ∙ ih front)
+one_kept line lines front false e ih =
+    rw e (ap (λ (r : Result Front GrammarKind). walk_next line.number r (λ n. walk n lines)) (line_skipped front line e) ∙ ih front)
 
 pub walk_kept : (lines : List TextLine) (front : Front) → walk front lines ≡ walk front (filter counts lines)
 walk_kept [] front = refl
@@ -148,7 +152,8 @@ within_of (Pipe p b) (v ∷ w ∷ x ∷ words) few has h = h.1.1.0.1
 within_of _ words few has h = tt
 
 -- the words of the statement, behind those of its prefix
-stmt_words : (prefix : Option Prefix) (stmt : Stmt) (words : List (List ℕ)) → AllZip Stands (prefix_places prefix ++ row stmt) words → (rest : List (List ℕ)) × AllZip Stands (row stmt) rest
+stmt_words : (prefix : Option Prefix) (stmt : Stmt) (words : List (List ℕ)) → AllZip Stands (prefix_places prefix ++ row stmt) words
+    → (rest : List (List ℕ)) × AllZip Stands (row stmt) rest
 stmt_words None stmt words h = (words, h)
 stmt_words (Some (If a)) stmt [] h = absurd h
 stmt_words (Some (If a)) stmt (v ∷ []) h = absurd h.1
@@ -186,7 +191,12 @@ head_front v procs name number params before line h is few =
     let short : length params ≤ 8 = not_over 8 (length params) (λ e. few (inl e)) in
     let room : length procs + 1 ≤ 4096 = not_over 4096 (length procs + 1) (λ e. few (inr e)) in
     let proc : Proc = record { name = name; line = number; params = params; body = [] } in
-    let within : ProcIsWithin v (record { name = name; line = number; params = params; body = [] }) = record { params = short; statements = omega arith; locals = rw (append-nil params) (omega (arith, short)); each = tt } in
+    let within : ProcIsWithin v (record { name = name; line = number; params = params; body = [] }) = record {
+      params = short;
+      statements = omega arith;
+      locals = rw (append-nil params) (omega (arith, short));
+      each = tt;
+    } in
     record {
       lines =
           pushed v (forms procs ++ []) (forms procs ++ Head name number params ∷ []) before (Head name number params) line h.lines is
@@ -204,12 +214,14 @@ body_front : (v : Version) (procs : List Proc) (proc : Proc) (statement : Statem
 body_front v procs proc statement before line h is shaped may few =
     let short : longest_list statement.stmt ≤ 8 = not_over 8 (longest_list statement.stmt) (λ e. few (inl e)) in
     let room : length proc.body + 1 ≤ 64 = not_over 64 (length proc.body + 1) (λ e. few (inr (inl e))) in
-    let bound : length (locals proc) + length (binds statement.stmt) ≤ 64 = not_over 64 (length (locals proc) + length (binds statement.stmt)) (λ e. few (inr (inr e))) in
+    let bound : length (locals proc) + length (binds statement.stmt) ≤ 64 =
+    not_over 64 (length (locals proc) + length (binds statement.stmt)) (λ e. few (inr (inr e))) in
     let old : ProcIsWithin v proc = all_between (ProcIsWithin v) procs [] proc h.each in
     let words = stmt_words statement.prefix statement.stmt (words_of line.text) is.words in
     let within : StatementIsWithin v statement = (shaped.0, within_of statement.stmt words.0 short shaped.1 words.1, may) in
     let local : locals (grown proc statement) ≡ locals proc ++ binds statement.stmt =
-    ap (λ (rest : List Param). proc.params ++ rest) (flat_append bound_by proc.body (statement ∷ []) ∙ ap (λ (rest : List Param). flat_map bound_by proc.body ++ rest) (append-nil (binds statement.stmt)))
+    ap (λ (rest : List Param). proc.params ++ rest) (flat_append bound_by proc.body (statement ∷ [])
+    ∙ ap (λ (rest : List Param). flat_map bound_by proc.body ++ rest) (append-nil (binds statement.stmt)))
     ∙ sym (append_assoc proc.params (flat_map bound_by proc.body) (binds statement.stmt)) in
     let proc_within : ProcIsWithin v (grown proc statement) = record {
       params = old.params;
@@ -218,11 +230,14 @@ body_front v procs proc statement before line h is shaped may few =
       each = all_push (StatementIsWithin v) proc.body statement old.each within;
     } in
     let bodies : map Body (proc.body ++ statement ∷ []) ≡ map Body proc.body ++ Body statement ∷ [] = rw map-append refl in
-    let forms_are : (forms procs ++ (Head proc.name proc.line proc.params ∷ map Body proc.body)) ++ Body statement ∷ [] ≡ forms procs ++ (Head proc.name proc.line proc.params ∷ map Body (proc.body ++ statement ∷ [])) =
-    append_assoc (forms procs) (Head proc.name proc.line proc.params ∷ map Body proc.body) (Body statement ∷ []) ∙ ap (λ (rest : List Form). forms procs ++ (Head proc.name proc.line proc.params ∷ rest)) (sym bodies) in
+    let forms_are : (forms procs ++ (Head proc.name proc.line proc.params ∷ map Body proc.body)) ++ Body statement ∷ [] ≡ forms procs
+    ++ (Head proc.name proc.line proc.params ∷ map Body (proc.body ++ statement ∷ [])) =
+    append_assoc (forms procs) (Head proc.name proc.line proc.params ∷ map Body proc.body) (Body statement ∷ [])
+    ∙ ap (λ (rest : List Form). forms procs ++ (Head proc.name proc.line proc.params ∷ rest)) (sym bodies) in
     record {
       lines =
-          pushed v (forms procs ++ (Head proc.name proc.line proc.params ∷ map Body proc.body)) (forms procs ++ (Head proc.name proc.line proc.params ∷ map Body (proc.body ++ statement ∷ [])))
+          pushed v (forms procs ++ (Head proc.name proc.line proc.params ∷ map Body proc.body))
+          (forms procs ++ (Head proc.name proc.line proc.params ∷ map Body (proc.body ++ statement ∷ [])))
           before (Body statement) line h.lines is forms_are;
       procs = omega (arith, h.procs, length-append procs (proc ∷ []), length-append procs (grown proc statement ∷ []));
       each = all_push (ProcIsWithin v) procs (grown proc statement) (all_front (ProcIsWithin v) procs (proc ∷ []) h.each) proc_within;
@@ -235,7 +250,8 @@ end_front : (v : Version) (procs : List Proc) (proc : Proc) (before : List TextL
     → IsLine End line → IsFront (front_of v (procs ++ proc ∷ [])) (before ++ line ∷ [])
 end_front v procs proc before line h is =
     let forms_are : (forms procs ++ (Head proc.name proc.line proc.params ∷ map Body proc.body)) ++ End ∷ [] ≡ forms (procs ++ proc ∷ []) ++ [] =
-    append_assoc (forms procs) (Head proc.name proc.line proc.params ∷ map Body proc.body) (End ∷ []) ∙ sym (forms_append procs (proc ∷ [])) ∙ sym (append-nil (forms (procs ++ proc ∷ []))) in
+    append_assoc (forms procs) (Head proc.name proc.line proc.params ∷ map Body proc.body) (End ∷ [])
+    ∙ sym (forms_append procs (proc ∷ [])) ∙ sym (append-nil (forms (procs ++ proc ∷ []))) in
     record {
       lines =
           pushed v (forms procs ++ (Head proc.name proc.line proc.params ∷ map Body proc.body)) (forms (procs ++ proc ∷ []) ++ [])
@@ -269,7 +285,8 @@ ok_is_front : {a b : Front} → (let r : Result Front GrammarKind = Ok a in r �
 ok_is_front e = cc
 
 -- a line that is taken behind a front makes another
-line_right : (front next : Front) (before : List TextLine) (line : TextLine) → IsFront front before → counts line ≡ true → taken front line ≡ Ok next → IsFront next (before ++ line ∷ [])
+line_right : (front next : Front) (before : List TextLine) (line : TextLine) → IsFront front before → counts line ≡ true
+    → taken front line ≡ Ok next → IsFront next (before ++ line ∷ [])
 line_right front next before line h kept is = of (line_read front line kept)
   where
     mixed : (kind : GrammarKind) (r : Result Front GrammarKind) → r ≡ Err kind → r ≡ Ok next → ⊥
@@ -292,17 +309,23 @@ line_right front next before line h kept is = of (line_read front line kept)
 abbrev pub AllCount : List TextLine → Type 0
 AllCount lines = AllByRecursion (λ line. counts line ≡ true) lines
 
-one_ok : (line : TextLine) (lines : List TextLine) (front next : Front) (before : List TextLine) → counts line ≡ true → IsFront front before → (r : Result Front GrammarKind) → taken front line ≡ r → walk front (line ∷ lines) ≡ Ok next
-    → ((mid : Front) → IsFront mid (before ++ line ∷ []) → walk mid lines ≡ Ok next → IsFront next ((before ++ line ∷ []) ++ lines)) → IsFront next (before ++ line ∷ lines)
+one_ok : (line : TextLine) (lines : List TextLine) (front next : Front) (before : List TextLine) → counts line ≡ true
+    → IsFront front before → (r : Result Front GrammarKind) → taken front line ≡ r → walk front (line ∷ lines) ≡ Ok next
+    → ((mid : Front) → IsFront mid (before ++ line ∷ []) → walk mid lines ≡ Ok next → IsFront next ((before ++ line ∷ []) ++ lines))
+    → IsFront next (before ++ line ∷ lines)
 one_ok line lines front next before kept h (Ok mid) r is ih =
-    subst (λ (ls : List TextLine). IsFront next ls) (append_assoc before (line ∷ []) lines) (ih mid (line_right front mid before line h kept r) (sym (walk_step front mid line lines r) ∙ is))
+    subst (λ (ls : List TextLine). IsFront next ls) (append_assoc before (line ∷ []) lines)
+    (ih mid (line_right front mid before line h kept r) (sym (walk_step front mid line lines r) ∙ is))
 one_ok line lines front next before kept h (Err kind) r is ih =
     let bad : walk front (line ∷ lines) ≡ Err (line.number, kind) = ap (λ (x : Result Front GrammarKind). walk_next line.number x (λ n. walk n lines)) r in
     absurd (mixed_up (line.number, kind) next (sym bad ∙ is))
 
-pub walk_ok : (lines : List TextLine) (front next : Front) (before : List TextLine) → AllCount lines → IsFront front before → walk front lines ≡ Ok next → IsFront next (before ++ lines)
+pub walk_ok : (lines : List TextLine) (front next : Front) (before : List TextLine) → AllCount lines → IsFront front before
+    → walk front lines ≡ Ok next → IsFront next (before ++ lines)
 walk_ok [] front next before all h is = rw (append-nil before) (subst (λ (f : Front). IsFront f before) (ok_front is) h)
-walk_ok (line ∷ lines) front next before all h is = one_ok line lines front next before all.0 h (taken front line) refl is (λ mid front_is. walk_ok lines mid next (before ++ line ∷ []) all.1 front_is)
+walk_ok (line ∷ lines) front next before all h is =
+    one_ok line lines front next before all.0 h (taken front line) refl is
+    (λ mid front_is. walk_ok lines mid next (before ++ line ∷ []) all.1 front_is)
 
 -- the first line with a fault, behind right ones
 pub record Faulty (before lines : List TextLine) (number : ℕ) (kind : GrammarKind) : Type 0 where
@@ -318,8 +341,11 @@ pub record Faulty (before lines : List TextLine) (number : ℕ) (kind : GrammarK
 placed_is : {a b : Placed} → (let r : Result Front Placed = Err a in r ≡ Err b) → a ≡ b
 placed_is e = cc
 
-one_err : (line : TextLine) (lines : List TextLine) (front : Front) (number : ℕ) (kind : GrammarKind) (before : List TextLine) → counts line ≡ true → IsFront front before → (r : Result Front GrammarKind) → taken front line ≡ r
-    → walk front (line ∷ lines) ≡ Err (number, kind) → ((mid : Front) → IsFront mid (before ++ line ∷ []) → walk mid lines ≡ Err (number, kind) → Faulty (before ++ line ∷ []) lines number kind) → Faulty before (line ∷ lines) number kind
+one_err : (line : TextLine) (lines : List TextLine) (front : Front) (number : ℕ) (kind : GrammarKind) (before : List TextLine)
+    → counts line ≡ true → IsFront front before → (r : Result Front GrammarKind) → taken front line ≡ r
+    → walk front (line ∷ lines) ≡ Err (number, kind)
+    → ((mid : Front) → IsFront mid (before ++ line ∷ []) → walk mid lines ≡ Err (number, kind)
+    → Faulty (before ++ line ∷ []) lines number kind) → Faulty before (line ∷ lines) number kind
 one_err line lines front number kind before kept h (Ok mid) r is ih =
     let x = ih mid (line_right front mid before line h kept r) (sym (walk_step front mid line lines r) ∙ is) in
     record {
@@ -347,9 +373,12 @@ one_err line lines front number kind before kept h (Err k) r is ih =
       at = sym (ap (λ (p : Placed). p.0) same);
     }
 
-pub walk_err : (lines : List TextLine) (front : Front) (number : ℕ) (kind : GrammarKind) (before : List TextLine) → AllCount lines → IsFront front before → walk front lines ≡ Err (number, kind) → Faulty before lines number kind
+pub walk_err : (lines : List TextLine) (front : Front) (number : ℕ) (kind : GrammarKind) (before : List TextLine) → AllCount lines
+    → IsFront front before → walk front lines ≡ Err (number, kind) → Faulty before lines number kind
 walk_err [] front number kind before all h is = absurd cc
-walk_err (line ∷ lines) front number kind before all h is = one_err line lines front number kind before all.0 h (taken front line) refl is (λ mid front_is. walk_err lines mid number kind (before ++ line ∷ []) all.1 front_is)
+walk_err (line ∷ lines) front number kind before all h is =
+    one_err line lines front number kind before all.0 h (taken front line) refl is
+    (λ mid front_is. walk_err lines mid number kind (before ++ line ∷ []) all.1 front_is)
 
 -- ---- a front is walked
 abbrev KeepsLimits : Version → Proc → List Statement → Type 0
@@ -358,7 +387,8 @@ KeepsLimits v proc body = ProcIsWithin v (with_body proc body)
 walk_body : (v : Version) (body : List Statement) (procs : List Proc) (proc : Proc) (fs : List Form) (lines : List TextLine)
     → KeepsLimits v proc (proc.body ++ body) → AllZip IsLine (map Body body ++ fs) lines
     → (rest : List TextLine) × AllZip IsLine fs rest × (walk (front_in v procs proc) lines ≡ walk (front_in v procs (with_body proc (proc.body ++ body))) rest)
-walk_body v [] procs proc fs lines within h = (lines, h, ap (λ (b : List Statement). walk (front_in v procs (with_body proc b)) lines) (sym (append-nil proc.body)))
+walk_body v [] procs proc fs lines within h =
+    (lines, h, ap (λ (b : List Statement). walk (front_in v procs (with_body proc b)) lines) (sym (append-nil proc.body)))
 walk_body v (statement ∷ body) procs proc fs [] within h = absurd h
 walk_body v (statement ∷ body) procs proc fs (line ∷ lines) within h =
     let each : StatementIsWithin v statement = all_between (StatementIsWithin v) proc.body body statement within.each in
@@ -373,14 +403,23 @@ walk_body v (statement ∷ body) procs proc fs (line ∷ lines) within h =
     not_ex is (inr (inl e)) = omega (arith, e, within.statements, length-append proc.body (statement ∷ body))
     not_ex is (inr (inr e)) =
         let all : locals (with_body proc (proc.body ++ statement ∷ body)) ≡ locals proc ++ (binds statement.stmt ++ flat_map bound_by body) =
-        ap (λ (rest : List Param). proc.params ++ rest) (flat_append bound_by proc.body (statement ∷ body)) ∙ sym (append_assoc proc.params (flat_map bound_by proc.body) (binds statement.stmt ++ flat_map bound_by body)) in
-        omega (arith, e, within.locals, ap length all, length-append (locals proc) (binds statement.stmt ++ flat_map bound_by body), length-append (binds statement.stmt) (flat_map bound_by body))
+        ap (λ (rest : List Param). proc.params ++ rest) (flat_append bound_by proc.body (statement ∷ body))
+        ∙ sym (append_assoc proc.params (flat_map bound_by proc.body) (binds statement.stmt ++ flat_map bound_by body)) in
+        omega (
+          arith,
+          e,
+          within.locals,
+          ap length all,
+          length-append (locals proc) (binds statement.stmt ++ flat_map bound_by body),
+          length-append (binds statement.stmt) (flat_map bound_by body),
+        )
 
 head_walk : (v : Version) (done : List Proc) (proc : Proc) (line : TextLine) (lines : List TextLine) → IsLine (Head proc.name proc.line proc.params) line
     → length proc.params ≤ 8 → length done + 1 ≤ 4096
     → walk (front_of v done) (line ∷ lines) ≡ walk (front_in v done (bare proc)) lines
 head_walk v done proc line lines is short room =
-    walk_step (front_of v done) (front_in v done (bare proc)) line lines (right_taken (front_of v done) line (Head proc.name proc.line proc.params) is tt tt not_ex)
+    walk_step (front_of v done) (front_in v done (bare proc)) line lines
+    (right_taken (front_of v done) line (Head proc.name proc.line proc.params) is tt tt not_ex)
   where
     not_ex : Exceeds (front_of v done) (Head proc.name proc.line proc.params) → ⊥
     not_ex (inl e) = omega (arith, e, short)
@@ -388,11 +427,13 @@ head_walk v done proc line lines is short room =
 
 end_walk : (v : Version) (done procs : List Proc) (proc : Proc) (begun : Option Proc) (rest : List TextLine)
     → AllZip IsLine (End ∷ (forms procs ++ begun_forms begun)) rest
-    → ((later : List TextLine) → AllZip IsLine (forms procs ++ begun_forms begun) later → walk (front_of v (done ++ proc ∷ [])) later ≡ Ok (record { of_version = v; procs = (done ++ proc ∷ []) ++ procs; begun = begun }))
+    → ((later : List TextLine) → AllZip IsLine (forms procs ++ begun_forms begun) later
+    → walk (front_of v (done ++ proc ∷ [])) later ≡ Ok (record { of_version = v; procs = (done ++ proc ∷ []) ++ procs; begun = begun }))
     → walk (front_in v done proc) rest ≡ Ok (record { of_version = v; procs = (done ++ proc ∷ []) ++ procs; begun = begun })
 end_walk v done procs proc begun [] h later = absurd h
 end_walk v done procs proc begun (line ∷ rest) h later =
-    walk_step (front_in v done proc) (front_of v (done ++ proc ∷ [])) line rest (right_taken (front_in v done proc) line End h.0 tt tt (λ e. e)) ∙ later rest h.1
+    walk_step (front_in v done proc) (front_of v (done ++ proc ∷ [])) line rest
+    (right_taken (front_in v done proc) line End h.0 tt tt (λ e. e)) ∙ later rest h.1
 
 walk_procs : (v : Version) (procs done : List Proc) (begun : Option Proc) (lines : List TextLine) → AllZip IsLine (forms procs ++ begun_forms begun) lines
     → length done + length (procs ++ begun_procs begun) ≤ 4096
@@ -403,7 +444,8 @@ walk_procs v [] done None (line ∷ lines) h few each = absurd h
 walk_procs v [] done (Some proc) [] h few each = absurd h
 walk_procs v [] done (Some proc) (line ∷ lines) h few each =
     let first = head_walk v done proc line lines h.0 each.0.params (omega (arith, few)) in
-    let body = walk_body v proc.body done (bare proc) [] lines each.0 (subst (λ (fs : List Form). AllZip IsLine fs lines) (sym (append-nil (map Body proc.body))) h.1) in
+    let body = walk_body v proc.body done (bare proc) [] lines each.0
+    (subst (λ (fs : List Form). AllZip IsLine fs lines) (sym (append-nil (map Body proc.body))) h.1) in
     first ∙ body.2 ∙ ended body.0 body.1 ∙ ap (λ (ps : List Proc). Ok (front_in v ps proc)) (sym (append-nil done))
   where
     ended : (rest : List TextLine) → AllZip IsLine [] rest → walk (front_in v done proc) rest ≡ Ok (front_in v done proc)
@@ -412,9 +454,13 @@ walk_procs v [] done (Some proc) (line ∷ lines) h few each =
 walk_procs v (proc ∷ procs) done begun [] h few each = absurd h
 walk_procs v (proc ∷ procs) done begun (line ∷ lines) h few each =
     let first = head_walk v done proc line lines h.0 each.0.params (omega (arith, few)) in
-    let joined : (map Body proc.body ++ End ∷ forms procs) ++ begun_forms begun ≡ map Body proc.body ++ End ∷ (forms procs ++ begun_forms begun) = append_assoc (map Body proc.body) (End ∷ forms procs) (begun_forms begun) in
-    let body = walk_body v proc.body done (bare proc) (End ∷ (forms procs ++ begun_forms begun)) lines each.0 (subst (λ (fs : List Form). AllZip IsLine fs lines) joined h.1) in
-    first ∙ body.2 ∙ end_walk v done procs proc begun body.0 body.1 (λ rest rest_is. walk_procs v procs (done ++ proc ∷ []) begun rest rest_is (omega (arith, few, length-append done (proc ∷ []))) each.1)
+    let joined : (map Body proc.body ++ End ∷ forms procs) ++ begun_forms begun ≡ map Body proc.body ++ End
+    ∷ (forms procs ++ begun_forms begun) = append_assoc (map Body proc.body) (End ∷ forms procs) (begun_forms begun) in
+    let body = walk_body v proc.body done (bare proc) (End ∷ (forms procs ++ begun_forms begun)) lines each.0
+    (subst (λ (fs : List Form). AllZip IsLine fs lines) joined h.1) in
+    first ∙ body.2 ∙ end_walk v done procs proc begun body.0 body.1
+    (λ rest rest_is. walk_procs v procs (done ++ proc ∷ []) begun rest rest_is
+    (omega (arith, few, length-append done (proc ∷ []))) each.1)
     ∙ ap (λ (ps : List Proc). Ok (record { of_version = v; procs = ps; begun = begun })) (append_assoc done (proc ∷ []) procs)
 
 -- the lines of a front lead to it

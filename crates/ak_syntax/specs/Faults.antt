@@ -109,7 +109,8 @@ MayFollow front form = MayStand front.of_version front.begun form
 
 -- a list of a statement, or what the procedure has with it, is over its limit
 abbrev pub StatementExceeds : Proc → Form → Type 0
-StatementExceeds proc (Body statement) = (8 < longest_list statement.stmt) ⊎ ((64 < length proc.body + 1) ⊎ (64 < length (locals proc) + length (binds statement.stmt)))
+StatementExceeds proc (Body statement) =
+    (8 < longest_list statement.stmt) ⊎ ((64 < length proc.body + 1) ⊎ (64 < length (locals proc) + length (binds statement.stmt)))
 StatementExceeds proc _ = ⊥
 
 -- with the line a count is over its limit

@@ -39,7 +39,8 @@ end_form_at = mapped (λ t. End) end_at
 
 -- a statement that binds no name
 unfoldable pub conditional_at : ℕ → Prefix → Part Form
-conditional_at number prefix c = word_at c >>= λ w. statement_at w.0 w.1 >>= λ s. if length (binds s.0) == 0 then Ok (Body (record { line = number; prefix = Some prefix; stmt = s.0 }), s.1) else Err bad
+conditional_at number prefix c = word_at c >>= λ w. statement_at w.0 w.1 >>= λ s. if length (binds s.0)
+    == 0 then Ok (Body (record { line = number; prefix = Some prefix; stmt = s.0 }), s.1) else Err bad
 
 unfoldable pub if_at : ℕ → Part Form
 if_at number c = atom_at c >>= λ a. conditional_at number (If a.0) a.1
@@ -65,14 +66,18 @@ abbrev pub head_added : Front → Proc → Result Front GrammarKind
 head_added front proc = if nat_lt 8 (length proc.params) || nat_le 4096 (length front.procs) then Err TooMany else Ok (record front { begun = Some proc })
 
 abbrev pub statement_exceeds : Proc → Statement → Bool
-statement_exceeds proc statement = nat_lt 8 (longest_list statement.stmt) || (nat_le 64 (length proc.body) || nat_lt 64 (length (locals proc) + length (binds statement.stmt)))
+statement_exceeds proc statement =
+    nat_lt 8 (longest_list statement.stmt)
+    || (nat_le 64 (length proc.body) || nat_lt 64 (length (locals proc) + length (binds statement.stmt)))
 
 -- the procedure with one more statement
 abbrev pub grown : Proc → Statement → Proc
 grown proc statement = record proc { body = proc.body ++ statement ∷ [] }
 
 abbrev pub statement_added : Front → Proc → Statement → Bool → Result Front GrammarKind
-statement_added front proc statement faulty = if statement_exceeds proc statement then Err TooMany else (if faulty then Err BadNumber else Ok (record front { begun = Some (grown proc statement) }))
+statement_added front proc statement faulty =
+    if statement_exceeds proc statement then Err TooMany else
+    (if faulty then Err BadNumber else Ok (record front { begun = Some (grown proc statement) }))
 
 abbrev pub end_added : Front → Proc → Result Front GrammarKind
 end_added front proc = Ok (record front { procs = front.procs ++ proc ∷ []; begun = None })

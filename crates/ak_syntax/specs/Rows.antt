@@ -123,4 +123,10 @@ row_or None row other = other
 
 -- the statement that begins with the word
 unfoldable pub statement_at : List ℕ → Part Stmt
-statement_at word = row_or (value_named word) value_row (row_or (deferred_named word) deferred_row (row_or (group_named word) group_row (row_or (job_named word) job_row (row_or (monitor_named word) monitor_row (row_or (throttle_named word) throttle_row (row_or (pipe_named word) pipe_row (row_or (closing_named word) closing_row (row_or (pool_named word) pool_row (λ c. Err bad)))))))))
+statement_at word = row_or (value_named word) value_row
+    (row_or (deferred_named word) deferred_row
+    (row_or (group_named word) group_row
+    (row_or (job_named word) job_row
+    (row_or (monitor_named word) monitor_row
+    (row_or (throttle_named word) throttle_row
+    (row_or (pipe_named word) pipe_row (row_or (closing_named word) closing_row (row_or (pool_named word) pool_row (λ c. Err bad)))))))))

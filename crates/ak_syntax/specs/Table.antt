@@ -82,7 +82,8 @@ row (ThrottleDone r t) = Exactly (codes "tdone") ∷ Named r ∷ Named t ∷ []
 row (Pipe p b) = Exactly (codes "pipe") ∷ Named p ∷ Counted 0 b ∷ []
 row (Write r p a) = Exactly (codes "write") ∷ Named r ∷ Named p ∷ Valued a ∷ []
 row (Put p a) = Exactly (codes "put") ∷ Named p ∷ Valued a ∷ []
-row (Read r p proc args eof eof_args) = Exactly (codes "rd") ∷ Named r ∷ Named p ∷ Named proc ∷ (map Valued args ++ Exactly (codes "else") ∷ Named eof ∷ map Valued eof_args)
+row (Read r p proc args eof eof_args) =
+    Exactly (codes "rd") ∷ Named r ∷ Named p ∷ Named proc ∷ (map Valued args ++ Exactly (codes "else") ∷ Named eof ∷ map Valued eof_args)
 row (Close p) = Exactly (codes "close") ∷ Named p ∷ []
 row (CloseRead p) = Exactly (codes "closeread") ∷ Named p ∷ []
 row (Flushed r p) = Exactly (codes "flushed") ∷ Named r ∷ Named p ∷ []

@@ -150,7 +150,8 @@ kind_named word = find (λ kind. bytes_eq (kind_word kind) word) all_kinds
 
 -- a parameter is cut at its first colon
 abbrev pub param_cut : List ℕ → Option ℕ → Result Param Bad
-param_cut word (Some colon) = name_found (take colon word) >>= λ name. some_found (kind_named (drop (colon + 1) word)) >>= λ kind. Ok (record { name = name; kind = kind })
+param_cut word (Some colon) = name_found (take colon word) >>= λ name. some_found (kind_named (drop (colon + 1) word)) >>= λ kind. Ok
+    (record { name = name; kind = kind })
 param_cut word None = Err bad
 
 unfoldable pub param_found : List ℕ → Result Param Bad
@@ -179,7 +180,8 @@ listed_at until c = listed_from until c.words c.faulty
 -- a list of items of one word each
 unfoldable pub list_from : {T : Type 0} → (List ℕ → Result (T × Bool) Bad) → Until → List (List ℕ) → Bool → Result (List T × Cursor) Bad
 list_from {T} item until [] faulty = if is_line_end until then Ok ([], record { words = []; faulty = faulty }) else Err bad
-list_from {T} item until (word ∷ words) faulty = if ends_list until word then Ok ([], record { words = words; faulty = faulty }) else (item word >>= λ x. list_from item until words (x.1 || faulty) >>= λ rest. Ok (x.0 ∷ rest.0, rest.1))
+list_from {T} item until (word ∷ words) faulty = if ends_list until word then Ok ([], record { words = words; faulty = faulty }) else
+    (item word >>= λ x. list_from item until words (x.1 || faulty) >>= λ rest. Ok (x.0 ∷ rest.0, rest.1))
 
 abbrev pub list_at : {T : Type 0} → (List ℕ → Result (T × Bool) Bad) → Until → Part (List T)
 list_at item until c = list_from item until c.words c.faulty
@@ -223,7 +225,9 @@ some_names_at until c = names_at until c >>= λ names. some_of names.0 >>= λ so
 unfoldable pub choices_from : List (List ℕ) → Bool → Result (List Choice × Cursor) Bad
 choices_from [] faulty = Err bad
 choices_from (word ∷ []) faulty = if ends_list With word then Ok ([], record { words = []; faulty = faulty }) else Err bad
-choices_from (word ∷ next ∷ words) faulty = if ends_list With word then Ok ([], record { words = next ∷ words; faulty = faulty }) else (name_found word >>= λ d. name_found next >>= λ proc. choices_from words faulty >>= λ rest. Ok (record { d = d; proc = proc } ∷ rest.0, rest.1))
+choices_from (word ∷ next ∷ words) faulty = if ends_list With word then Ok ([], record { words = next ∷ words; faulty = faulty }) else
+    (name_found word >>= λ d. name_found next >>= λ proc. choices_from words faulty >>= λ rest. Ok
+    (record { d = d; proc = proc } ∷ rest.0, rest.1))
 
 abbrev pub choices_at : Part (List Choice)
 choices_at c = choices_from c.words c.faulty

@@ -100,7 +100,8 @@ impl<'a> Cursor<'a> {
     /// The next word of a list, and `None` where the list is over.
     #[tactic(auto, unfolding(crate::specs::Words::listed_at))]
     pub fn listed(&mut self, until: Until) -> Result<Option<&'a [u8]>, Fault>
-        ensures { Leaves (λ o. option_map (λ w. w.now) o) result self.new (listed_at until self.old) }
+        ensures { Leaves (λ o. option_map (λ w. w.now) o) result self.new
+            (listed_at until self.old) }
     {
         let Some(word) = self.words.next() else {
             if until.is_line_end() {

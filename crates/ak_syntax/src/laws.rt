@@ -13,15 +13,18 @@ pub fn one_reading()
 
 /// No text has two faults.
 pub fn one_fault()
-    ensures { (bytes : List ℕ) (l m : ℕ) (j k : Kind) → GrammarFault bytes l j → GrammarFault bytes m k → (l ≡ m) × (j ≡ k) }
+    ensures { (bytes : List ℕ) (l m : ℕ) (j k : Kind) → GrammarFault bytes l j
+        → GrammarFault bytes m k → (l ≡ m) × (j ≡ k) }
 {}
 
 /// No script has a fault.
 pub fn no_fault_in_a_script()
-    ensures { (bytes : List ℕ) (script : List Proc) (line : ℕ) (kind : Kind) → Reads bytes script → GrammarFault bytes line kind → ⊥ }
+    ensures { (bytes : List ℕ) (script : List Proc) (line : ℕ) (kind : Kind)
+        → Reads bytes script → GrammarFault bytes line kind → ⊥ }
 {}
 
 /// Each text is a script or has a fault.
 pub fn script_or_fault()
-    ensures { (bytes : List ℕ) → ((script : List Proc) × Reads bytes script) ⊎ ((line : ℕ) × (kind : Kind) × GrammarFault bytes line kind) }
+    ensures { (bytes : List ℕ) → ((script : List Proc) × Reads bytes script)
+        ⊎ ((line : ℕ) × (kind : Kind) × GrammarFault bytes line kind) }
 {}

@@ -24,7 +24,8 @@ const MAX_BYTES: usize = 1_048_576;
 pub fn parse(alloc: Global, bytes: &[u8]) -> Result<Script, ParseRefused>
     ensures right { IsRight bytes.now result }
     ensures script { (script : List Proc) → Reads bytes.now script → IsScript result script }
-    ensures fault { (line : ℕ) (kind : Kind) → GrammarFault bytes.now line kind → IsFault result line kind }
+    ensures fault { (line : ℕ) (kind : Kind) → GrammarFault bytes.now line kind
+        → IsFault result line kind }
 {
     if bytes.len() > MAX_BYTES {
         return Err(ParseRefused::at(0, GrammarKind::TooLong));

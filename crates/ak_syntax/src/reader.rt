@@ -100,7 +100,8 @@ impl Reader {
 
     /// The line of version 2 comes before all others.
     fn set_version(&mut self) -> Result<(), Fault>
-        ensures { Becomes result self.new (async_added self.old.of_version self.old.procs self.old.begun) }
+        ensures { Becomes result self.new
+            (async_added self.old.of_version self.old.procs self.old.begun) }
     {
         let comes_first = matches!(self.of_version, Version::One) && self.procs.len() == 0;
         if !comes_first || self.begun.is_some() {
@@ -126,7 +127,8 @@ impl Reader {
     }
 
     fn add_statement(&mut self, statement: Statement, faulty: bool) -> Result<(), Fault>
-        ensures { Becomes result self.new (begun_statement self.old.begun self.old statement faulty) }
+        ensures { Becomes result self.new
+            (begun_statement self.old.begun self.old statement faulty) }
     {
         let local_count = self.room_for(&statement, faulty)?;
         self.begun = with_statement(self.begun.take(), statement)?;
@@ -136,7 +138,8 @@ impl Reader {
 
     /// The number of locals that the procedure has with the statement, where it may come next.
     fn room_for(&self, statement: &Statement, faulty: bool) -> Result<usize, Fault>
-        ensures { HasRoom result (begun_statement self.now.begun self.now statement.now faulty) self.now.begun statement.now.stmt }
+        ensures { HasRoom result (begun_statement self.now.begun self.now statement.now faulty)
+            self.now.begun statement.now.stmt }
     {
         let Some(proc) = &self.begun else {
             return Err(Fault::Grammar(GrammarKind::BadLine));

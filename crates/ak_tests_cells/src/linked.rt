@@ -33,7 +33,8 @@ pub fn answer<L: Ledger>(
     requires ivar { call.ivar < length cells.old.named.cells.ivars }
     requires right { call.right < length cells.old.named.cells.ivars }
     requires unwoken { cells.old.named.woken ≡ [] }
-    ensures { OnOk result (length cells.new.named.cells.ivars ≡ length cells.old.named.cells.ivars) }
+    ensures { OnOk result (length cells.new.named.cells.ivars
+        ≡ length cells.old.named.cells.ivars) }
 {
     let ivar = IvarNo::new(call.ivar);
     match call.method {
@@ -69,7 +70,8 @@ fn register<L: Ledger>(
     steps: &mut Steps<L>,
 ) -> Result<Answer, NoMemory>
     requires { ivar < length cells.old.named.cells.ivars }
-    ensures { OnOk result (length cells.new.named.cells.ivars ≡ length cells.old.named.cells.ivars) }
+    ensures { OnOk result (length cells.new.named.cells.ivars
+        ≡ length cells.old.named.cells.ivars) }
 {
     let ctx = Ctx {
         mon: MonNo::new(0),

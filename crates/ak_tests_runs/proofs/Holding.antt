@@ -27,7 +27,8 @@ module _ (h : HubState) (p q : PassView Event) (was : List (ℕ × Event)) where
       ap (list_any is_close) gave.seen ∙ open_behind (seen_by p) (events was) es (gave.hold.workers number) none is
 
   -- how many works were handed in
-  pub submits_again : (es : List Event) → p.number ≡ 0 → Gave h p was es q → count_by is_submit (seen_by q) ≡ count_by is_submit (seen_by p) + count_by is_submit es
+  pub submits_again : (es : List Event) → p.number ≡ 0 → Gave h p was es q → count_by is_submit (seen_by q)
+      ≡ count_by is_submit (seen_by p) + count_by is_submit es
   submits_again es number gave =
       ap (count_by is_submit) gave.seen ∙ submits_behind (seen_by p) (events was) es (gave.hold.workers number)
 
@@ -39,7 +40,8 @@ module _ (h : HubState) (p q : PassView Event) (was : List (ℕ × Event)) where
       subst SomeOutstanding (sym gave.seen) (out_now h.threads 0 (events was) id work helper gave.hold.legal legal.0)
 
   -- the work that was taken may be finished with its value
-  pub may_end : (t id : ℕ) (work : Work) (outcome : Outcome) → Took h p was t (taken.Got id work) q → outcome ≡ value_of work → IsLegalAfter h.threads 0 (seen_by q) (event.Finish t id outcome)
+  pub may_end : (t id : ℕ) (work : Work) (outcome : Outcome) → Took h p was t (taken.Got id work) q → outcome ≡ value_of work
+      → IsLegalAfter h.threads 0 (seen_by q) (event.Finish t id outcome)
   may_end t id work outcome took value =
       subst (λ l. IsLegalAfter h.threads 0 l (event.Finish t id outcome)) (sym took.0.seen)
       (subst (λ o. IsLegalAfter h.threads 0 (events was ++ event.Start t id ∷ []) (event.Finish t id o)) (sym value)
@@ -51,7 +53,9 @@ module _ (h : HubState) (p q : PassView Event) (was : List (ℕ × Event)) where
       ap (λ l. is_running l t) (gave.seen ∙ append-nil (events was)) ∙ idle_behind t (seen_by p) (events was) (gave.hold.others t number) idle
 
 -- a thread that finished the one work that it was given runs nothing
-pub idle_then : (h : HubState) (p q r : PassView Event) (w1 w2 : List (ℕ × Event)) (t id : ℕ) (work : Work) (outcome : Outcome) → p.number ≡ suc t → q.number ≡ suc t → is_running (seen_by p) t ≡ false → Took h p w1 t (taken.Got id work) q → Gave h q w2 (event.Finish t id outcome ∷ []) r → is_running (seen_by r) t ≡ false
+pub idle_then : (h : HubState) (p q r : PassView Event) (w1 w2 : List (ℕ × Event)) (t id : ℕ) (work : Work) (outcome : Outcome)
+    → p.number ≡ suc t → q.number ≡ suc t → is_running (seen_by p) t ≡ false → Took h p w1 t (taken.Got id work) q
+    → Gave h q w2 (event.Finish t id outcome ∷ []) r → is_running (seen_by r) t ≡ false
 idle_then h p q r w1 w2 t id work outcome of_p of_q idle took gave =
     let b = gave.hold.others t of_q in
     let all : seen_by r ≡ ((events w1 ++ event.Start t id ∷ []) ++ b.rest) ++ event.Finish t id outcome ∷ [] =

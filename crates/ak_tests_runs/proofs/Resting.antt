@@ -27,7 +27,8 @@ module _ {L : Type 0} (carried : L → ℕ) (h : HubState) where
   all_idle t (x ∷ xs) (p ∷ ps) rest = (rest.0.pass.0, all_idle (suc t) xs ps rest.1)
 
   -- all passes are idle, with one more that is
-  pub all_idle_more : (xs : List L) (ps qs : List (PassView Event)) (p : PassView Event) → qs ≡ ps ++ p ∷ [] → AreAtRest carried h 0 xs ps → IsIdleOf h.turn p → AllByRecursion (IsIdleOf h.turn) qs
+  pub all_idle_more : (xs : List L) (ps qs : List (PassView Event)) (p : PassView Event) → qs ≡ ps ++ p ∷ [] → AreAtRest carried h 0 xs ps
+      → IsIdleOf h.turn p → AllByRecursion (IsIdleOf h.turn) qs
   all_idle_more xs ps qs p now rest one = subst (AllByRecursion (IsIdleOf h.turn)) (sym now) (more ps (all_idle 0 xs ps rest))
     where
       more : (ps : List (PassView Event)) → AllByRecursion (IsIdleOf h.turn) ps → AllByRecursion (IsIdleOf h.turn) (ps ++ p ∷ [])

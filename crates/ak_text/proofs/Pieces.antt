@@ -25,7 +25,9 @@ before_later : (ends : ℕ → Bool) (byte : ℕ) (bytes : List ℕ) → ends by
 before_later ends byte bytes e = rw (one_later ends byte bytes e) refl
 
 first_of : (ends : ℕ → Bool) (byte : ℕ) (bytes : List ℕ) (b : Bool) → ends byte ≡ b → (position_or_len ends bytes < length bytes
-    → pieces ends bytes ≡ before_first ends bytes ∷ pieces ends (after_first ends bytes)) → position_or_len ends (byte ∷ bytes) < length (byte ∷ bytes) → pieces ends (byte ∷ bytes) ≡ before_first ends (byte ∷ bytes) ∷ pieces ends (after_first ends (byte ∷ bytes))
+    → pieces ends bytes ≡ before_first ends bytes ∷ pieces ends (after_first ends bytes))
+    → position_or_len ends (byte ∷ bytes) < length (byte ∷ bytes) → pieces ends (byte ∷ bytes) ≡ before_first ends (byte ∷ bytes)
+    ∷ pieces ends (after_first ends (byte ∷ bytes))
 first_of ends byte bytes true e ih h = rw e refl
 first_of ends byte bytes false e ih h =
     let below : position_or_len ends bytes < length bytes = omega (arith, one_later ends byte bytes e) in
@@ -36,7 +38,8 @@ pub first_piece : (ends : ℕ → Bool) (bytes : List ℕ) → position_or_len e
 first_piece ends [] h = absurd (omega arith)
 first_piece ends (byte ∷ bytes) h = first_of ends byte bytes (ends byte) refl (first_piece ends bytes) h
 
-last_of : (ends : ℕ → Bool) (byte : ℕ) (bytes : List ℕ) (b : Bool) → ends byte ≡ b → (0 < length bytes → position_or_len ends bytes ≡ length bytes → pieces ends bytes ≡ bytes ∷ [])
+last_of : (ends : ℕ → Bool) (byte : ℕ) (bytes : List ℕ) (b : Bool) → ends byte ≡ b
+    → (0 < length bytes → position_or_len ends bytes ≡ length bytes → pieces ends bytes ≡ bytes ∷ [])
     → position_or_len ends (byte ∷ bytes) ≡ length (byte ∷ bytes) → pieces ends (byte ∷ bytes) ≡ (byte ∷ bytes) ∷ []
 last_of ends byte bytes true e ih h = absurd (omega (arith, rw e at h))
 last_of ends byte [] false e ih h = rw e refl
@@ -70,7 +73,8 @@ begins_of : (p : ℕ → Bool) (byte : ℕ) (bytes : List ℕ) (b : Bool) → p 
 begins_of p byte bytes true e ih h = rw (at_front p byte bytes e) (rw e (omega arith))
 begins_of p byte bytes false e ih h = rw (one_later p byte bytes e) (ih (omega (arith, one_later p byte bytes e)))
 
-begins_run : (p : ℕ → Bool) (bytes : List ℕ) → position_or_len p bytes < length bytes → 0 < position_or_len (λ c. not (p c)) (drop (position_or_len p bytes) bytes)
+begins_run : (p : ℕ → Bool) (bytes : List ℕ) → position_or_len p bytes < length bytes
+    → 0 < position_or_len (λ c. not (p c)) (drop (position_or_len p bytes) bytes)
 begins_run p [] h = absurd (omega arith)
 begins_run p (byte ∷ bytes) h = begins_of p byte bytes (p byte) refl (begins_run p bytes) h
 
@@ -97,7 +101,8 @@ at_gap p byte bytes e = rw e refl
 middle_run : (p : ℕ → Bool) (text : List ℕ) → 0 < position_or_len (others p) text → position_or_len (others p) text < length text
     → runs p text ≡ take (position_or_len (others p) text) text ∷ runs p (drop (position_or_len (others p) text) text)
 middle_run p text h below =
-    let some : is_not_empty (take (position_or_len (others p) text) text) ≡ true = not_empty _ (omega (arith, length-take (position_or_len (others p) text) text)) in
+    let some : is_not_empty (take (position_or_len (others p) text) text) ≡ true =
+    not_empty _ (omega (arith, length-take (position_or_len (others p) text) text)) in
     let gap : others p (get_or text (position_or_len (others p) text) 0) ≡ true = grind (arith, prefix_len_stops (λ x. not (others p x)) text 0 below) in
     rw (first_piece (others p) text below) (rw some (ap (λ (rest : List (List ℕ)). take (position_or_len (others p) text) text ∷ rest)
     (sym (rw (drop-cons text (position_or_len (others p) text) 0 below) (rw add-one (at_gap p _ _ gap))))))
@@ -106,10 +111,12 @@ last_run : (p : ℕ → Bool) (text : List ℕ) → 0 < position_or_len (others 
     → runs p text ≡ take (position_or_len (others p) text) text ∷ runs p (drop (position_or_len (others p) text) text)
 last_run p text h whole =
     let some : is_not_empty text ≡ true = not_empty _ (omega arith) in
-    rw (last_piece (others p) text (omega arith) whole) (rw some (rw (whole, take_all (length text) text (omega arith), drop_all (length text) text (omega arith)) refl))
+    rw (last_piece (others p) text (omega arith) whole)
+    (rw some (rw (whole, take_all (length text) text (omega arith), drop_all (length text) text (omega arith)) refl))
 
 -- the first word, where the text begins with it, and what follows
-pub first_word : (text word rest : List ℕ) (end : ℕ) → 0 < position_or_len is_gap text → Some end ≡ position is_gap text → word ≡ take end text → rest ≡ drop end text
+pub first_word : (text word rest : List ℕ) (end : ℕ) → 0 < position_or_len is_gap text → Some end ≡ position is_gap text
+    → word ≡ take end text → rest ≡ drop end text
     → words_of text ≡ word ∷ words_of rest
 first_word text word rest end h e w r = let at = found is_gap text end e in
     rw (w, r, at.0) (middle_run is_word_byte text h at.1)
@@ -119,7 +126,8 @@ only_word text h e = let whole = not_found is_gap text e in
     last_run is_word_byte text h whole ∙ rw (whole, take_all (length text) text (omega arith), drop_all (length text) text (omega arith)) refl
 
 -- the first line, which LF ends, and what follows
-pub first_line_of : (text line rest : List ℕ) (end : ℕ) → Some end ≡ position is_line_feed text → line ≡ strip_carriage_return (take end text) → rest ≡ drop (end + 1) text
+pub first_line_of : (text line rest : List ℕ) (end : ℕ) → Some end ≡ position is_line_feed text
+    → line ≡ strip_carriage_return (take end text) → rest ≡ drop (end + 1) text
     → lines_of text ≡ line ∷ lines_of rest
 first_line_of text line rest end e l r = let at = found is_line_feed text end e in
     rw (l, r, at.0) (ap (map strip_carriage_return) (first_piece is_line_feed text at.1))

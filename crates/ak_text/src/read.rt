@@ -51,7 +51,8 @@ fn digits_of(word: &[u8]) -> &[u8]
 }
 
 fn read_digits(digits: &[u8]) -> Option<u64>
-    ensures { SomeIff result (AreDigits digits.now × (digits_value digits.now < 2 ^ 64)) (digits_value digits.now) }
+    ensures { SomeIff result (AreDigits digits.now × (digits_value digits.now < 2 ^ 64))
+        (digits_value digits.now) }
 {
     if !are_digits(digits) {
         return None;

@@ -45,7 +45,8 @@ not_below : (m n : ℕ) → (m < n → ⊥) → n ≤ m
 not_below m n f = elim (cases_lt m n) [ inl l ↦ absurd (f l) | inr h ↦ h ]
 
 -- how many bodies there are while the throttle lives
-pub small_alive : {B : Type 0} (most : ℕ) (dead : Bool) (started : Started) (lost : ℕ) (bodies : List B) (marks : List Mark) → IsKept most dead started lost bodies marks → dead ≡ false → length started.overs + length bodies < 2 ^ 32
+pub small_alive : {B : Type 0} (most : ℕ) (dead : Bool) (started : Started) (lost : ℕ) (bodies : List B) (marks : List Mark)
+    → IsKept most dead started lost bodies marks → dead ≡ false → length started.overs + length bodies < 2 ^ 32
 small_alive most true started lost bodies marks k e = absurd (true≢false e)
 small_alive most false started lost bodies marks k e = omega (arith, k.small, length_alive started.overs lost bodies)
 
@@ -53,7 +54,11 @@ count_last : (overs : List Bool) → count_by not (overs ++ false ∷ []) ≡ co
 count_last overs = sum_by-append (λ (o : Bool). cond (not o) 1 0) overs (false ∷ [])
 
 -- the same many bodies, of which other ones run
-kept_by : {B : Type 0} (most : ℕ) (dead : Bool) (started next : Started) (lost : ℕ) (bodies rest : List B) (marks : List Mark) → IsKept most dead started lost bodies marks → length (bodies_of dead next.overs lost rest) ≡ length (bodies_of dead started.overs lost bodies) → count_by not next.overs ≤ most → (dead ≡ false → 0 < length rest → count_by not next.overs ≡ most) → (dead ≡ false → length rest ≤ next.spare) → IsKept most dead next lost rest marks
+kept_by : {B : Type 0} (most : ℕ) (dead : Bool) (started next : Started) (lost : ℕ) (bodies rest : List B) (marks : List Mark)
+    → IsKept most dead started lost bodies marks → length (bodies_of dead next.overs lost rest)
+    ≡ length (bodies_of dead started.overs lost bodies) → count_by not next.overs ≤ most
+    → (dead ≡ false → 0 < length rest → count_by not next.overs ≡ most) → (dead ≡ false → length rest ≤ next.spare)
+    → IsKept most dead next lost rest marks
 kept_by most dead started next lost bodies rest marks k e few full room = record {
   some = k.some;
   few = few;
@@ -64,7 +69,10 @@ kept_by most dead started next lost bodies rest marks k e few full room = record
 }
 
 -- a body that runs ends, and the front one starts
-pub kept_ended : {B : Type 0} (most : ℕ) (dead : Bool) (started mid next : Started) (lost : ℕ) (bodies rest : List B) (marks : List Mark) → IsKept most dead started lost bodies marks → count_by not mid.overs + 1 ≡ count_by not started.overs → length mid.overs ≡ length started.overs → next.overs ≡ overs_after dead mid.overs bodies → rest ≡ waiting_after dead bodies → (dead ≡ false → length rest ≤ next.spare) → IsKept most dead next lost rest marks
+pub kept_ended : {B : Type 0} (most : ℕ) (dead : Bool) (started mid next : Started) (lost : ℕ) (bodies rest : List B) (marks : List Mark)
+    → IsKept most dead started lost bodies marks → count_by not mid.overs + 1 ≡ count_by not started.overs
+    → length mid.overs ≡ length started.overs → next.overs ≡ overs_after dead mid.overs bodies → rest ≡ waiting_after dead bodies
+    → (dead ≡ false → length rest ≤ next.spare) → IsKept most dead next lost rest marks
 kept_ended most true started mid next lost bodies rest marks k c l o r room =
     kept_by most true started next lost bodies rest marks k
     (length_dead next.overs lost rest ∙ ap (λ n. n + lost) (ap length o ∙ l) ∙ sym (length_dead started.overs lost bodies))
@@ -82,7 +90,9 @@ kept_ended most false started mid next lost (b ∷ bs) rest marks k c l o r room
     (omega (arith, more, c, all)) (λ e h. omega (arith, more, c, all)) room
 
 -- a body starts at once
-pub kept_started : {B : Type 0} (most : ℕ) (dead : Bool) (started next : Started) (lost : ℕ) (bodies : List B) (marks : List Mark) → IsKept most dead started lost bodies marks → dead ≡ false → count_by not started.overs < most → length started.overs + length bodies < 2 ^ 32 - 1 → next.overs ≡ started.overs ++ false ∷ [] → IsKept most dead next lost bodies marks
+pub kept_started : {B : Type 0} (most : ℕ) (dead : Bool) (started next : Started) (lost : ℕ) (bodies : List B) (marks : List Mark)
+    → IsKept most dead started lost bodies marks → dead ≡ false → count_by not started.overs < most
+    → length started.overs + length bodies < 2 ^ 32 - 1 → next.overs ≡ started.overs ++ false ∷ [] → IsKept most dead next lost bodies marks
 kept_started most true started next lost bodies marks k e f h o = absurd (true≢false e)
 kept_started most false started next lost (b ∷ bs) marks k e f h o = absurd (omega (arith, f, k.full refl (omega arith)))
 kept_started {B} most false started next lost [] marks k e f h o =
@@ -98,7 +108,10 @@ kept_started {B} most false started next lost [] marks k e f h o =
     }
 
 -- a body waits
-pub kept_waits : {B : Type 0} (most : ℕ) (dead : Bool) (started next : Started) (lost : ℕ) (bodies more : List B) (b : B) (marks : List Mark) → IsKept most dead started lost bodies marks → dead ≡ false → (count_by not started.overs < most → ⊥) → length started.overs + length bodies < 2 ^ 32 - 1 → next.overs ≡ started.overs → length bodies + 1 ≤ next.spare → more ≡ bodies ++ b ∷ [] → IsKept most dead next lost more marks
+pub kept_waits : {B : Type 0} (most : ℕ) (dead : Bool) (started next : Started) (lost : ℕ) (bodies more : List B) (b : B)
+    (marks : List Mark) → IsKept most dead started lost bodies marks → dead ≡ false → (count_by not started.overs < most → ⊥)
+    → length started.overs + length bodies < 2 ^ 32 - 1 → next.overs ≡ started.overs → length bodies + 1 ≤ next.spare
+    → more ≡ bodies ++ b ∷ [] → IsKept most dead next lost more marks
 kept_waits most true started next lost bodies more b marks k e f h o room m = absurd (true≢false e)
 kept_waits most false started next lost bodies more b marks k e f h o room m =
     let many : length more ≡ length bodies + 1 = ap length m ∙ length-append bodies (b ∷ [])
@@ -110,22 +123,30 @@ kept_waits most false started next lost bodies more b marks k e f h o room m =
       full = λ e h. all;
       room = λ e. omega (arith, many, room);
       small = omega (arith, length_alive next.overs lost more, many, ap length o, h);
-      ordered = marks_raised 0 _ _ marks (omega (arith, length_alive next.overs lost more, many, ap length o, length_alive started.overs lost bodies)) k.ordered;
+      ordered = marks_raised 0 _ _ marks
+          (omega (arith, length_alive next.overs lost more, many, ap length o, length_alive started.overs lost bodies)) k.ordered;
     }
 
 -- a deferred waits until all are over
-pub kept_marked : {B : Type 0} (most : ℕ) (dead : Bool) (started : Started) (lost : ℕ) (bodies : List B) (marks more : List Mark) (i : ℕ) → IsKept most dead started lost bodies marks → more ≡ marks ++ record { ivar = i; count = length (bodies_of dead started.overs lost bodies) } ∷ [] → IsKept most dead started lost bodies more
+pub kept_marked : {B : Type 0} (most : ℕ) (dead : Bool) (started : Started) (lost : ℕ) (bodies : List B) (marks more : List Mark) (i : ℕ)
+    → IsKept most dead started lost bodies marks → more ≡ marks ++ record {
+      ivar = i;
+      count =
+          length (bodies_of dead started.overs lost bodies);
+    } ∷ [] → IsKept most dead started lost bodies more
 kept_marked most dead started lost bodies marks more i k e = record {
   some = k.some;
   few = k.few;
   full = k.full;
   room = k.room;
   small = k.small;
-  ordered = subst (λ (ms : List Mark). AreMarks 0 (length (bodies_of dead started.overs lost bodies)) ms) (sym e) (marks_last 0 _ i marks (omega arith) k.ordered);
+  ordered = subst (λ (ms : List Mark). AreMarks 0 (length (bodies_of dead started.overs lost bodies)) ms) (sym e)
+      (marks_last 0 _ i marks (omega arith) k.ordered);
 }
 
 -- a mark is reached
-pub kept_reached : {B : Type 0} (most : ℕ) (dead : Bool) (started : Started) (lost : ℕ) (bodies : List B) (marks rest : List Mark) (n : ℕ) → IsKept most dead started lost bodies marks → rest ≡ without_reached n marks → IsKept most dead started lost bodies rest
+pub kept_reached : {B : Type 0} (most : ℕ) (dead : Bool) (started : Started) (lost : ℕ) (bodies : List B) (marks rest : List Mark) (n : ℕ)
+    → IsKept most dead started lost bodies marks → rest ≡ without_reached n marks → IsKept most dead started lost bodies rest
 kept_reached most dead started lost bodies marks rest n k e = record {
   some = k.some;
   few = k.few;
@@ -136,11 +157,13 @@ kept_reached most dead started lost bodies marks rest n k e = record {
 }
 
 -- all bodies of a throttle that lives
-pub all_alive : {B : Type 0} (dead : Bool) (overs : List Bool) (lost : ℕ) (bodies : List B) → dead ≡ false → length (bodies_of dead overs lost bodies) ≡ length overs + length bodies
+pub all_alive : {B : Type 0} (dead : Bool) (overs : List Bool) (lost : ℕ) (bodies : List B) → dead ≡ false
+    → length (bodies_of dead overs lost bodies) ≡ length overs + length bodies
 all_alive true overs lost bodies e = absurd (true≢false e)
 all_alive false overs lost bodies e = length_alive overs lost bodies
 
 -- none waits where fewer run than may
-pub none_waits : {B : Type 0} (most : ℕ) (dead : Bool) (started : Started) (lost : ℕ) (bodies : List B) (marks : List Mark) → IsKept most dead started lost bodies marks → dead ≡ false → count_by not started.overs < most → length bodies ≡ 0
+pub none_waits : {B : Type 0} (most : ℕ) (dead : Bool) (started : Started) (lost : ℕ) (bodies : List B) (marks : List Mark)
+    → IsKept most dead started lost bodies marks → dead ≡ false → count_by not started.overs < most → length bodies ≡ 0
 none_waits most dead started lost [] marks k e f = refl
 none_waits most dead started lost (b ∷ bs) marks k e f = absurd (omega (arith, f, k.full e (omega arith)))

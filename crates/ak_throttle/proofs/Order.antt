@@ -35,15 +35,31 @@ record IsStep {B : Type 0} (n most : ℕ) (nums : List ℕ) (t : Throttle B) : T
   pub in_order : nums ≡ numbers_from n (length nums)
 
 -- a call that starts none
-none_starts : {B : Type 0} (most : ℕ) (stop dead : Bool) (overs : List Bool) (lost : ℕ) (bodies : List B) (marks : List Mark) (n : ℕ) (t : Throttle B) → t ≡ throttle_of most stop dead overs lost bodies marks → count_by not overs ≤ most → (dead ≡ false → 0 < length bodies → count_by not overs ≡ most) → length overs ≡ n → IsStep n most [] t
+none_starts : {B : Type 0} (most : ℕ) (stop dead : Bool) (overs : List Bool) (lost : ℕ) (bodies : List B) (marks : List Mark) (n : ℕ)
+    (t : Throttle B) → t ≡ throttle_of most stop dead overs lost bodies marks → count_by not overs ≤ most
+    → (dead ≡ false → 0 < length bodies → count_by not overs ≡ most) → length overs ≡ n → IsStep n most [] t
 none_starts most stop dead overs lost bodies marks n t e f g s = record {
-  held = record { most = most; stop = stop; dead = dead; overs = overs; lost = lost; bodies = bodies; marks = marks; is = e; few = f; full = g; started = omega (arith, s) };
+  held = record {
+    most = most;
+    stop = stop;
+    dead = dead;
+    overs = overs;
+    lost = lost;
+    bodies = bodies;
+    marks = marks;
+    is = e;
+    few = f;
+    full = g;
+    started = omega (arith, s);
+  };
   same = ap (λ u. u.most) e;
   in_order = refl;
 }
 
 -- a call that starts the next one
-next_starts : {B : Type 0} (most : ℕ) (stop dead : Bool) (overs : List Bool) (lost : ℕ) (bodies : List B) (marks : List Mark) (n : ℕ) (nums : List ℕ) (t : Throttle B) → t ≡ throttle_of most stop dead (overs ++ false ∷ []) lost bodies marks → count_by not overs < most → (dead ≡ false → 0 < length bodies → count_by not overs + 1 ≡ most) → length overs ≡ n → nums ≡ n ∷ [] → IsStep n most nums t
+next_starts : {B : Type 0} (most : ℕ) (stop dead : Bool) (overs : List Bool) (lost : ℕ) (bodies : List B) (marks : List Mark) (n : ℕ)
+    (nums : List ℕ) (t : Throttle B) → t ≡ throttle_of most stop dead (overs ++ false ∷ []) lost bodies marks → count_by not overs < most
+    → (dead ≡ false → 0 < length bodies → count_by not overs + 1 ≡ most) → length overs ≡ n → nums ≡ n ∷ [] → IsStep n most nums t
 next_starts {B} most stop dead overs lost bodies marks n nums t e f g s m =
     let one : count_by not (overs ++ false ∷ []) ≡ count_by not overs + 1 = sum_by-append (λ (o : Bool). cond (not o) 1 0) overs (false ∷ [])
     in record {
@@ -65,8 +81,14 @@ next_starts {B} most stop dead overs lost bodies marks n nums t e f g s m =
     }
 
 -- one more body runs, or waits
-enqueue_by : {B : Type 0} (room : Bool) (most : ℕ) (stop : Bool) (overs : List Bool) (lost : ℕ) (bodies : List B) (marks : List Mark) (body : B) → has_room (throttle_of most stop false overs lost bodies marks) ≡ room → count_by not overs ≤ most → (0 < length bodies → count_by not overs ≡ most)
-    → IsStep (length overs) most (cond room (length (throttle_of most stop false overs lost bodies marks).bodies ∷ []) []) (record (throttle_of most stop false overs lost bodies marks) { bodies = (throttle_of most stop false overs lost bodies marks).bodies ++ cond room Running (Waiting body) ∷ [] })
+enqueue_by : {B : Type 0} (room : Bool) (most : ℕ) (stop : Bool) (overs : List Bool) (lost : ℕ) (bodies : List B) (marks : List Mark)
+    (body : B) → has_room (throttle_of most stop false overs lost bodies marks) ≡ room → count_by not overs ≤ most
+    → (0 < length bodies → count_by not overs ≡ most)
+    → IsStep (length overs) most (cond room (length (throttle_of most stop false overs lost bodies marks).bodies ∷ []) [])
+    (record (throttle_of most stop false overs lost bodies marks) {
+      bodies =
+          (throttle_of most stop false overs lost bodies marks).bodies ++ cond room Running (Waiting body) ∷ [];
+    })
 enqueue_by true most stop overs lost (b ∷ bs) marks body r f g =
     absurd (omega (arith, g (omega arith), ltb-true _ _ (sym (room_same most stop false overs lost (b ∷ bs) marks) ∙ r)))
 enqueue_by {B} true most stop overs lost [] marks body r f g =
@@ -75,7 +97,8 @@ enqueue_by {B} true most stop overs lost [] marks body r f g =
     in let few : count_by not overs < most = ltb-true _ _ (sym (room_same most stop false overs lost none marks) ∙ r)
     in next_starts most stop false overs lost none marks (length overs) (length (plain_stages ++ []) ∷ []) _
     (ap (λ stages. record { most = most; stop = stop; dead = false; bodies = stages; dropped = []; marks = marks })
-    (ap (λ xs. xs ++ Running ∷ []) (append-nil plain_stages) ∙ sym (map-append stage_of overs (false ∷ [])) ∙ sym (append-nil (map stage_of (overs ++ false ∷ [])))))
+    (ap (λ xs. xs ++ Running ∷ []) (append-nil plain_stages) ∙ sym (map-append stage_of overs (false ∷ []))
+    ∙ sym (append-nil (map stage_of (overs ++ false ∷ [])))))
     few (λ d h. absurd (omega (arith, h))) refl
     (ap (λ k. k ∷ []) (ap length (append-nil plain_stages) ∙ length-map overs stage_of))
 enqueue_by {B} false most stop overs lost bodies marks body r f g =
@@ -87,16 +110,25 @@ enqueue_by {B} false most stop overs lost bodies marks body r f g =
     f (λ d h. omega (arith, all, f)) refl
 
 -- a body that runs ends
-end_by : {B : Type 0} (most : ℕ) (stop dead : Bool) (overs : List Bool) (lost : ℕ) (bodies : List B) (marks : List Mark) (n : ℕ) → slice_get overs n ≡ Some false → count_by not overs ≤ most → (dead ≡ false → 0 < length bodies → count_by not overs ≡ most) → IsStep (length overs) most (number_of (started_by_end n (throttle_of most stop dead overs lost bodies marks))) (after_end n (throttle_of most stop dead overs lost bodies marks))
+end_by : {B : Type 0} (most : ℕ) (stop dead : Bool) (overs : List Bool) (lost : ℕ) (bodies : List B) (marks : List Mark) (n : ℕ)
+    → slice_get overs n ≡ Some false → count_by not overs ≤ most → (dead ≡ false → 0 < length bodies → count_by not overs ≡ most)
+    → IsStep (length overs) most (number_of (started_by_end n (throttle_of most stop dead overs lost bodies marks)))
+    (after_end n (throttle_of most stop dead overs lost bodies marks))
 end_by most stop true overs lost bodies marks n e f g =
     let fewer = one_fewer overs n e
-    in subst (λ (nums : List ℕ). IsStep (length overs) most nums (after_end n (throttle_of most stop true overs lost bodies marks))) (sym (ap number_of (started_same most stop true overs lost bodies marks n e)))
-    (none_starts most stop true (slice_set overs n true) lost bodies marks (length overs) _ (after_same most stop true overs lost bodies marks n e) (omega (arith, fewer, f)) (λ d. absurd (true≢false d)) (length-set overs n true))
+    in subst (λ (nums : List ℕ). IsStep (length overs) most nums (after_end n (throttle_of most stop true overs lost bodies marks)))
+    (sym (ap number_of (started_same most stop true overs lost bodies marks n e)))
+    (none_starts most stop true (slice_set overs n true) lost bodies marks (length overs) _
+    (after_same most stop true overs lost bodies marks n e) (omega (arith, fewer, f)) (λ d. absurd (true≢false d))
+    (length-set overs n true))
 end_by {B} most stop false overs lost [] marks n e f g =
     let none : List B = []
     in let fewer = one_fewer overs n e
-    in subst (λ (nums : List ℕ). IsStep (length overs) most nums (after_end n (throttle_of most stop false overs lost none marks))) (sym (ap number_of (started_same most stop false overs lost none marks n e)))
-    (none_starts most stop false (slice_set overs n true) lost none marks (length overs) _ (after_same most stop false overs lost none marks n e) (omega (arith, fewer, f)) (λ d h. absurd (omega (arith, h))) (length-set overs n true))
+    in subst (λ (nums : List ℕ). IsStep (length overs) most nums (after_end n (throttle_of most stop false overs lost none marks)))
+    (sym (ap number_of (started_same most stop false overs lost none marks n e)))
+    (none_starts most stop false (slice_set overs n true) lost none marks (length overs) _
+    (after_same most stop false overs lost none marks n e) (omega (arith, fewer, f)) (λ d h. absurd (omega (arith, h)))
+    (length-set overs n true))
 end_by most stop false overs lost (b ∷ bs) marks n e f g =
     let fewer = one_fewer overs n e
     in let all = g refl (omega arith)
@@ -104,39 +136,58 @@ end_by most stop false overs lost (b ∷ bs) marks n e f g =
     (omega (arith, fewer, f)) (λ d h. omega (arith, fewer, all)) (length-set overs n true)
     (ap number_of (started_same most stop false overs lost (b ∷ bs) marks n e) ∙ ap (λ k. k ∷ []) (length-set overs n true))
 
-fail_by : {B : Type 0} (most : ℕ) (stop dead : Bool) (overs : List Bool) (lost : ℕ) (bodies : List B) (marks : List Mark) (n : ℕ) → slice_get overs n ≡ Some false → count_by not overs ≤ most → (dead ≡ false → 0 < length bodies → count_by not overs ≡ most) → IsStep (length overs) most (starts (Failed n) (throttle_of most stop dead overs lost bodies marks)) (after_failure n (throttle_of most stop dead overs lost bodies marks))
+fail_by : {B : Type 0} (most : ℕ) (stop dead : Bool) (overs : List Bool) (lost : ℕ) (bodies : List B) (marks : List Mark) (n : ℕ)
+    → slice_get overs n ≡ Some false → count_by not overs ≤ most → (dead ≡ false → 0 < length bodies → count_by not overs ≡ most)
+    → IsStep (length overs) most (starts (Failed n) (throttle_of most stop dead overs lost bodies marks))
+    (after_failure n (throttle_of most stop dead overs lost bodies marks))
 fail_by most true dead overs lost bodies marks n e f g =
-    none_starts most true true (slice_set overs n true) (lost_after dead lost bodies) bodies marks (length overs) _ (stopped_same most true dead overs lost bodies marks n e)
+    none_starts most true true (slice_set overs n true) (lost_after dead lost bodies) bodies marks (length overs) _
+    (stopped_same most true dead overs lost bodies marks n e)
     (omega (arith, one_fewer overs n e, f)) (λ d. absurd (true≢false d)) (length-set overs n true)
 fail_by most false dead overs lost bodies marks n e f g = end_by most false dead overs lost bodies marks n e f g
 
-awaited_by : {B : Type 0} (t : Bool) (most : ℕ) (stop dead : Bool) (overs : List Bool) (lost : ℕ) (bodies : List B) (marks : List Mark) (i : ℕ) → count_by not overs ≤ most → (dead ≡ false → 0 < length bodies → count_by not overs ≡ most) → IsStep (length overs) most [] (cond t (throttle_of most stop dead overs lost bodies marks) (with_mark i (throttle_of most stop dead overs lost bodies marks)))
+awaited_by : {B : Type 0} (t : Bool) (most : ℕ) (stop dead : Bool) (overs : List Bool) (lost : ℕ) (bodies : List B) (marks : List Mark)
+    (i : ℕ) → count_by not overs ≤ most → (dead ≡ false → 0 < length bodies → count_by not overs ≡ most)
+    → IsStep (length overs) most []
+    (cond t (throttle_of most stop dead overs lost bodies marks) (with_mark i (throttle_of most stop dead overs lost bodies marks)))
 awaited_by true most stop dead overs lost bodies marks i f g = none_starts most stop dead overs lost bodies marks (length overs) _ refl f g refl
 awaited_by false most stop dead overs lost bodies marks i f g =
     none_starts most stop dead overs lost bodies (with_mark i (throttle_of most stop dead overs lost bodies marks)).marks (length overs) _ refl f g refl
 
-enqueue_step : {B : Type 0} (most : ℕ) (stop dead : Bool) (overs : List Bool) (lost : ℕ) (bodies : List B) (marks : List Mark) (body : B) → count_by not overs ≤ most → (dead ≡ false → 0 < length bodies → count_by not overs ≡ most) → IsStep (length overs) most (starts (Enqueue body) (throttle_of most stop dead overs lost bodies marks)) (called (Enqueue body) (throttle_of most stop dead overs lost bodies marks))
+enqueue_step : {B : Type 0} (most : ℕ) (stop dead : Bool) (overs : List Bool) (lost : ℕ) (bodies : List B) (marks : List Mark) (body : B)
+    → count_by not overs ≤ most → (dead ≡ false → 0 < length bodies → count_by not overs ≡ most)
+    → IsStep (length overs) most (starts (Enqueue body) (throttle_of most stop dead overs lost bodies marks))
+    (called (Enqueue body) (throttle_of most stop dead overs lost bodies marks))
 enqueue_step most stop true overs lost bodies marks body f g = none_starts most stop true overs lost bodies marks (length overs) _ refl f g refl
 enqueue_step most stop false overs lost bodies marks body f g =
     enqueue_by (has_room (throttle_of most stop false overs lost bodies marks)) most stop overs lost bodies marks body refl f (g refl)
 
-drop_step : {B : Type 0} (most : ℕ) (stop dead : Bool) (overs : List Bool) (lost : ℕ) (bodies : List B) (marks : List Mark) → count_by not overs ≤ most → (dead ≡ false → 0 < length bodies → count_by not overs ≡ most) → IsStep (length overs) most [] (dropped_taken (throttle_of most stop dead overs lost bodies marks))
-drop_step most stop true overs lost bodies marks f g = none_starts most stop true overs lost (rest_of bodies) marks (length overs) _ refl f (λ d. absurd (true≢false d)) refl
+drop_step : {B : Type 0} (most : ℕ) (stop dead : Bool) (overs : List Bool) (lost : ℕ) (bodies : List B) (marks : List Mark)
+    → count_by not overs ≤ most → (dead ≡ false → 0 < length bodies → count_by not overs ≡ most)
+    → IsStep (length overs) most [] (dropped_taken (throttle_of most stop dead overs lost bodies marks))
+drop_step most stop true overs lost bodies marks f g =
+    none_starts most stop true overs lost (rest_of bodies) marks (length overs) _ refl f (λ d. absurd (true≢false d)) refl
 drop_step most stop false overs lost bodies marks f g = none_starts most stop false overs lost bodies marks (length overs) _ refl f g refl
 
-step_of : {B : Type 0} (call : Call B) (most : ℕ) (stop dead : Bool) (overs : List Bool) (lost : ℕ) (bodies : List B) (marks : List Mark) → IsAllowed call (throttle_of most stop dead overs lost bodies marks) → count_by not overs ≤ most → (dead ≡ false → 0 < length bodies → count_by not overs ≡ most) → IsStep (length overs) most (starts call (throttle_of most stop dead overs lost bodies marks)) (called call (throttle_of most stop dead overs lost bodies marks))
+step_of : {B : Type 0} (call : Call B) (most : ℕ) (stop dead : Bool) (overs : List Bool) (lost : ℕ) (bodies : List B) (marks : List Mark)
+    → IsAllowed call (throttle_of most stop dead overs lost bodies marks) → count_by not overs ≤ most
+    → (dead ≡ false → 0 < length bodies → count_by not overs ≡ most)
+    → IsStep (length overs) most (starts call (throttle_of most stop dead overs lost bodies marks))
+    (called call (throttle_of most stop dead overs lost bodies marks))
 step_of (Enqueue body) most stop dead overs lost bodies marks a f g = enqueue_step most stop dead overs lost bodies marks body f g
 step_of (Ended n) most stop dead overs lost bodies marks a f g = end_by most stop dead overs lost bodies marks n (runs_in dead overs lost bodies n a) f g
 step_of (Failed n) most stop dead overs lost bodies marks a f g = fail_by most stop dead overs lost bodies marks n (runs_in dead overs lost bodies n a) f g
 step_of NextDropped most stop dead overs lost bodies marks a f g = drop_step most stop dead overs lost bodies marks f g
-step_of (DoneWhen i) most stop dead overs lost bodies marks a f g = awaited_by (is_done (throttle_of most stop dead overs lost bodies marks)) most stop dead overs lost bodies marks i f g
+step_of (DoneWhen i) most stop dead overs lost bodies marks a f g =
+    awaited_by (is_done (throttle_of most stop dead overs lost bodies marks)) most stop dead overs lost bodies marks i f g
 step_of NextDone most stop dead overs lost bodies marks a f g =
     none_starts most stop dead overs lost bodies (satisfied_taken (throttle_of most stop dead overs lost bodies marks)).marks (length overs) _ refl f g refl
 
 call_step : {B : Type 0} (call : Call B) (t : Throttle B) (n : ℕ) → IsAllowed call t → IsHeld t n → IsStep n t.most (starts call t) (called call t)
 call_step {B} call t n a h =
     let u : Throttle B = throttle_of h.most h.stop h.dead h.overs h.lost h.bodies h.marks
-    in let step : IsStep (length h.overs) h.most (starts call u) (called call u) = step_of call h.most h.stop h.dead h.overs h.lost h.bodies h.marks (subst (λ (x : Throttle B). IsAllowed call x) h.is a) h.few h.full
+    in let step : IsStep (length h.overs) h.most (starts call u) (called call u) =
+    step_of call h.most h.stop h.dead h.overs h.lost h.bodies h.marks (subst (λ (x : Throttle B). IsAllowed call x) h.is a) h.few h.full
     in subst (λ (x : Throttle B). IsStep n x.most (starts call x) (called call x)) (sym h.is)
     (subst (λ (m : ℕ). IsStep m h.most (starts call u) (called call u)) h.started step)
 
@@ -175,10 +226,24 @@ run_of (call ∷ calls) t n a h =
     }
 
 fresh_held : {B : Type 0} (most : ℕ) (stop : Bool) → IsHeld {B = B} (fresh_throttle most stop) 0
-fresh_held most stop = record { most = most; stop = stop; dead = false; overs = []; lost = 0; bodies = []; marks = []; is = refl; few = omega arith; full = λ d h. absurd (omega (arith, h)); started = refl }
+fresh_held most stop = record {
+  most = most;
+  stop = stop;
+  dead = false;
+  overs = [];
+  lost = 0;
+  bodies = [];
+  marks = [];
+  is = refl;
+  few = omega arith;
+  full = λ d h. absurd (omega (arith, h));
+  started = refl;
+}
 
-pub few_run : {B : Type 0} (most : ℕ) (stop : Bool) (calls : List (Call B)) → AreAllowed calls (fresh_throttle most stop) → running_count (after calls (fresh_throttle most stop)) ≤ most
+pub few_run : {B : Type 0} (most : ℕ) (stop : Bool) (calls : List (Call B)) → AreAllowed calls (fresh_throttle most stop)
+    → running_count (after calls (fresh_throttle most stop)) ≤ most
 few_run most stop calls a = (run_of calls (fresh_throttle most stop) 0 a (fresh_held most stop)).few
 
-pub in_order : {B : Type 0} (most : ℕ) (stop : Bool) (calls : List (Call B)) → AreAllowed calls (fresh_throttle most stop) → all_starts calls (fresh_throttle most stop) ≡ numbers_from 0 (length (all_starts calls (fresh_throttle most stop)))
+pub in_order : {B : Type 0} (most : ℕ) (stop : Bool) (calls : List (Call B)) → AreAllowed calls (fresh_throttle most stop)
+    → all_starts calls (fresh_throttle most stop) ≡ numbers_from 0 (length (all_starts calls (fresh_throttle most stop)))
 in_order most stop calls a = (run_of calls (fresh_throttle most stop) 0 a (fresh_held most stop)).in_order

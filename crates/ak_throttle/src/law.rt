@@ -7,7 +7,8 @@ ghost use Rattle.ak_throttle.specs.Runs.{Call, AreAllowed, after, all_starts, nu
 /// Whatever is called, at most so many bodies run. The bodies may be of any type `B`.
 #[tactic(auto, using(crate::proofs::Order::few_run))]
 pub fn at_most_so_many_bodies_run<B>()
-    ensures { (most : ℕ) (stop : Bool) (calls : List (Call B)) → AreAllowed calls (fresh_throttle most stop)
+    ensures { (most : ℕ) (stop : Bool) (calls : List (Call B))
+        → AreAllowed calls (fresh_throttle most stop)
         → running_count (after calls (fresh_throttle most stop)) ≤ most }
 {}
 
@@ -15,6 +16,7 @@ pub fn at_most_so_many_bodies_run<B>()
 /// of any type `B`.
 #[tactic(auto, using(crate::proofs::Order::in_order))]
 pub fn bodies_start_in_order<B>()
-    ensures { (most : ℕ) (stop : Bool) (calls : List (Call B)) → AreAllowed calls (fresh_throttle most stop)
+    ensures { (most : ℕ) (stop : Bool) (calls : List (Call B))
+        → AreAllowed calls (fresh_throttle most stop)
         → all_starts calls (fresh_throttle most stop) ≡ numbers_from 0 (length (all_starts calls (fresh_throttle most stop))) }
 {}

@@ -117,7 +117,8 @@ fn mark_over(others: &mut VecDeque<bool>, at: usize)
 // Counts those in front that are over, and keeps only the others.
 fn count_front(others: &mut VecDeque<bool>, over_first: u32) -> u32
     requires { over_first + deque_len others.old < 2 ^ 32 }
-    ensures overs { replicate result true ++ others.new.items ≡ replicate over_first true ++ others.old.items }
+    ensures overs { replicate result true ++ others.new.items ≡ replicate over_first true
+        ++ others.old.items }
     ensures first { is_first_running others.new.items ≡ true }
     ensures running { count_by not others.new.items ≡ count_by not others.old.items }
     ensures len { result + deque_len others.new ≡ over_first + deque_len others.old }

@@ -9,7 +9,8 @@ ghost use Rattle.ak_throttle.specs.Story.{four_bodies, one_ended, one_failed, al
 /// Two bodies start at once, and a third one waits.
 pub fn two_bodies_start()
     ensures first { placed {B = ℕ} 10 (fresh_throttle 2 true) ≡ Start 0 10 }
-    ensures third { placed {B = ℕ} 12 (enqueued 11 (enqueued 10 (fresh_throttle 2 true))) ≡ Waits 2 }
+    ensures third { placed {B = ℕ} 12 (enqueued 11 (enqueued 10 (fresh_throttle 2 true)))
+        ≡ Waits 2 }
     ensures running { running_count four_bodies ≡ 2 }
 {}
 

@@ -168,7 +168,10 @@ impl<B> Throttle<B> {
         requires alive { self.old.dead ≡ false }
         requires room { plain.has_room self.old ≡ true }
         ensures placed { IfOk result (λ e. e ≡ Enqueued.Start (length self.old.bodies) body) }
-        ensures ok { OnOk result (self.new ≡ record self.old { bodies = self.old.bodies ++ Running ∷ [] }) }
+        ensures ok { OnOk result (self.new ≡ record self.old {
+          bodies =
+              self.old.bodies ++ Running ∷ [];
+        }) }
         ensures refused { IfErr result (λ r. r ≡ EnqueueRefused.NoMemory body) }
         ensures err { OnErr result (self.new ≡ self.old) }
         ensures most { plain.running_count self.new ≤ self.new.most }
@@ -187,7 +190,10 @@ impl<B> Throttle<B> {
         requires alive { self.old.dead ≡ false }
         requires room { plain.has_room self.old ≡ false }
         ensures placed { IfOk result (λ e. e ≡ Enqueued.Waits (length self.old.bodies)) }
-        ensures ok { OnOk result (self.new ≡ record self.old { bodies = self.old.bodies ++ Waiting body ∷ [] }) }
+        ensures ok { OnOk result (self.new ≡ record self.old {
+          bodies =
+              self.old.bodies ++ Waiting body ∷ [];
+        }) }
         ensures refused { IfErr result (λ r. r ≡ EnqueueRefused.NoMemory body) }
         ensures err { OnErr result (self.new ≡ self.old) }
         ensures most { plain.running_count self.new ≤ self.new.most }

@@ -27,7 +27,9 @@ module _ {L : Type 0} (carried : L → ℕ) (old new : List L) where
   after_carried history NoMemory c h = absurd (cc (c))
   after_carried history Stuck c h = h
 
-  pub after_run : (r : Report) (trace : List Entry) (history : List Event) → r.history ≡ history → IsStatusOf (status_of trace) r.status ⊎ (r.status ≡ WriteFault) → HaveCarried carried old new history → AreAfterRun carried old new r.history r.status
+  pub after_run : (r : Report) (trace : List Entry) (history : List Event) → r.history ≡ history
+      → IsStatusOf (status_of trace) r.status ⊎ (r.status ≡ WriteFault) → HaveCarried carried old new history
+      → AreAfterRun carried old new r.history r.status
   after_run r trace history e s h =
       after_carried r.history r.status (is_carried r.status (status_of trace) s) (subst (HaveCarried carried old new) (sym e) h)
 
@@ -36,7 +38,8 @@ module _ {L : Type 0} (carried : L → ℕ) (old new : List L) where
   kept_at history (stop.Refused line kind) h = h
   kept_at history stop.NoMemory h = tt
 
-  pub after_stop : (s : Stop) (status : Status) (r : Report) → r ≡ bare_report status → status ≡ status_at s → AreKept old new s → AreAfterRun carried old new r.history r.status
+  pub after_stop : (s : Stop) (status : Status) (r : Report) → r ≡ bare_report status → status ≡ status_at s → AreKept old new s
+      → AreAfterRun carried old new r.history r.status
   after_stop s status r e d h =
       subst (λ (x : Report). AreAfterRun carried old new x.history x.status) (sym (e ∙ ap bare_report d)) (kept_at [] s h)
 

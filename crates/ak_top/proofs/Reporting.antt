@@ -77,20 +77,49 @@ run_reports config told r trace history t h s is none =
 abbrev pub bare_report : Status → Report
 bare_report s = record { status = s; trace = []; history = [] }
 
-the_refusal : (command : Command) (told : Option (List ℕ)) (line kind l k : ℕ) → IsRefused command told line kind → Refused line kind ≡ Refused l k → IsRefused command told l k
+the_refusal : (command : Command) (told : Option (List ℕ)) (line kind l k : ℕ) → IsRefused command told line kind
+    → Refused line kind ≡ Refused l k → IsRefused command told l k
 the_refusal command told line kind l k is e =
     let a : line ≡ l = cc (e) in let b : kind ≡ k = cc (e) in subst (λ x. IsRefused command told l x) b (subst (λ x. IsRefused command told x kind) a is)
 
-run_stops : (config : Config) (told : Option (List ℕ)) (before now : ℕ) (s : Stop) → IsStop (Run config) told before now s → ((line kind : ℕ) → TellsFault (Run config) told line kind → IsTheRefusal line kind s) → (TellsScript (Run config) told → IsNoStop s) → ReportsRun config told (bare_report (status_at s))
-run_stops config told before now stop.ReadFault is refuses accepts = record { run = λ e. absurd (cc (e)); shows = tt; bare = λ e. (refl, refl); refused = λ l k e. absurd (cc (e)); refuses = λ l k x. tt; completes = λ x. tt }
-run_stops config told before now (stop.Refused line kind) is refuses accepts = record { run = λ e. absurd (cc (e)); shows = tt; bare = λ e. (refl, refl); refused = λ l k e. the_refusal (Run config) told line kind l k is e; refuses = λ l k x. refuses l k x; completes = λ x. accepts x }
-run_stops config told before now stop.NoMemory is refuses accepts = record { run = λ e. absurd (cc (e)); shows = tt; bare = λ e. (refl, refl); refused = λ l k e. absurd (cc (e)); refuses = λ l k x. tt; completes = λ x. tt }
+run_stops : (config : Config) (told : Option (List ℕ)) (before now : ℕ) (s : Stop) → IsStop (Run config) told before now s
+    → ((line kind : ℕ) → TellsFault (Run config) told line kind → IsTheRefusal line kind s) → (TellsScript (Run config) told → IsNoStop s)
+    → ReportsRun config told (bare_report (status_at s))
+run_stops config told before now stop.ReadFault is refuses accepts = record {
+  run = λ e. absurd (cc (e));
+  shows = tt;
+  bare = λ e. (refl, refl);
+  refused = λ l k e. absurd (cc (e));
+  refuses = λ l k x. tt;
+  completes = λ x. tt;
+}
+run_stops config told before now (stop.Refused line kind) is refuses accepts = record {
+  run = λ e. absurd (cc (e));
+  shows = tt;
+  bare = λ e. (refl, refl);
+  refused = λ l k e. the_refusal (Run config) told line kind l k is e;
+  refuses = λ l k x. refuses l k x;
+  completes = λ x. accepts x;
+}
+run_stops config told before now stop.NoMemory is refuses accepts = record {
+  run = λ e. absurd (cc (e));
+  shows = tt;
+  bare = λ e. (refl, refl);
+  refused = λ l k e. absurd (cc (e));
+  refuses = λ l k x. tt;
+  completes = λ x. tt;
+}
 
-pub stop_reports_run : (config : Config) (told : Option (List ℕ)) (before now : ℕ) (s : Stop) (status : Status) (r : Report) → r ≡ bare_report status → status ≡ status_at s → IsStop (Run config) told before now s → ((line kind : ℕ) → TellsFault (Run config) told line kind → IsTheRefusal line kind s) → (TellsScript (Run config) told → IsNoStop s) → ReportsRun config told r
-stop_reports_run config told before now s status r e d is refuses accepts = subst (ReportsRun config told) (sym (e ∙ ap bare_report d)) (run_stops config told before now s is refuses accepts)
+pub stop_reports_run : (config : Config) (told : Option (List ℕ)) (before now : ℕ) (s : Stop) (status : Status) (r : Report)
+    → r ≡ bare_report status → status ≡ status_at s → IsStop (Run config) told before now s
+    → ((line kind : ℕ) → TellsFault (Run config) told line kind → IsTheRefusal line kind s) → (TellsScript (Run config) told → IsNoStop s)
+    → ReportsRun config told r
+stop_reports_run config told before now s status r e d is refuses accepts =
+    subst (ReportsRun config told) (sym (e ∙ ap bare_report d)) (run_stops config told before now s is refuses accepts)
 
 -- ---- a test of a script
-check_done : (told : Option (List ℕ)) (s : Status) → is_carried_out s ≡ true → IsVerdict s → IsValidSource told → ((line kind : ℕ) → TellsFault Check told line kind → ⊥) → ReportsCheck told (bare_report s)
+check_done : (told : Option (List ℕ)) (s : Status) → is_carried_out s ≡ true → IsVerdict s → IsValidSource told
+    → ((line kind : ℕ) → TellsFault Check told line kind → ⊥) → ReportsCheck told (bare_report s)
 check_done told s c v is none = record {
   verdict = v;
   valid = λ e. is;
@@ -100,13 +129,42 @@ check_done told s c v is none = record {
   completes = λ x. no_refusal s c;
 }
 
-pub check_reports : (told : Option (List ℕ)) (s : Status) (r : Report) → r ≡ bare_report s → is_carried_out s ≡ true → IsVerdict s → IsValidSource told → ((line kind : ℕ) → TellsFault Check told line kind → ⊥) → ReportsCheck told r
+pub check_reports : (told : Option (List ℕ)) (s : Status) (r : Report) → r ≡ bare_report s → is_carried_out s ≡ true → IsVerdict s
+    → IsValidSource told → ((line kind : ℕ) → TellsFault Check told line kind → ⊥) → ReportsCheck told r
 check_reports told s r e c v is none = subst (ReportsCheck told) (sym e) (check_done told s c v is none)
 
-check_stops : (told : Option (List ℕ)) (before now : ℕ) (s : Stop) → IsStop Check told before now s → ((line kind : ℕ) → TellsFault Check told line kind → IsTheRefusal line kind s) → (TellsScript Check told → IsNoStop s) → ReportsCheck told (bare_report (status_at s))
-check_stops told before now stop.ReadFault is refuses accepts = record { verdict = tt; valid = λ e. absurd (cc (e)); bare = (refl, refl); refused = λ l k e. absurd (cc (e)); refuses = λ l k x. tt; completes = λ x. tt }
-check_stops told before now (stop.Refused line kind) is refuses accepts = record { verdict = tt; valid = λ e. absurd (cc (e)); bare = (refl, refl); refused = λ l k e. the_refusal Check told line kind l k is e; refuses = λ l k x. refuses l k x; completes = λ x. accepts x }
-check_stops told before now stop.NoMemory is refuses accepts = record { verdict = tt; valid = λ e. absurd (cc (e)); bare = (refl, refl); refused = λ l k e. absurd (cc (e)); refuses = λ l k x. tt; completes = λ x. tt }
+check_stops : (told : Option (List ℕ)) (before now : ℕ) (s : Stop) → IsStop Check told before now s
+    → ((line kind : ℕ) → TellsFault Check told line kind → IsTheRefusal line kind s) → (TellsScript Check told → IsNoStop s)
+    → ReportsCheck told (bare_report (status_at s))
+check_stops told before now stop.ReadFault is refuses accepts = record {
+  verdict = tt;
+  valid = λ e. absurd (cc (e));
+  bare = (refl, refl);
+  refused = λ l k e. absurd (cc (e));
+  refuses = λ l k x. tt;
+  completes = λ x. tt;
+}
+check_stops told before now (stop.Refused line kind) is refuses accepts = record {
+  verdict = tt;
+  valid = λ e. absurd (cc (e));
+  bare = (refl, refl);
+  refused = λ l k e. the_refusal Check told line kind l k is e;
+  refuses = λ l k x. refuses l k x;
+  completes =
+      λ x. accepts x;
+}
+check_stops told before now stop.NoMemory is refuses accepts = record {
+  verdict = tt;
+  valid = λ e. absurd (cc (e));
+  bare = (refl, refl);
+  refused = λ l k e. absurd (cc (e));
+  refuses = λ l k x. tt;
+  completes = λ x. tt;
+}
 
-pub stop_reports_check : (told : Option (List ℕ)) (before now : ℕ) (s : Stop) (status : Status) (r : Report) → r ≡ bare_report status → status ≡ status_at s → IsStop Check told before now s → ((line kind : ℕ) → TellsFault Check told line kind → IsTheRefusal line kind s) → (TellsScript Check told → IsNoStop s) → ReportsCheck told r
-stop_reports_check told before now s status r e d is refuses accepts = subst (ReportsCheck told) (sym (e ∙ ap bare_report d)) (check_stops told before now s is refuses accepts)
+pub stop_reports_check : (told : Option (List ℕ)) (before now : ℕ) (s : Stop) (status : Status) (r : Report) → r ≡ bare_report status
+    → status ≡ status_at s → IsStop Check told before now s
+    → ((line kind : ℕ) → TellsFault Check told line kind → IsTheRefusal line kind s) → (TellsScript Check told → IsNoStop s)
+    → ReportsCheck told r
+stop_reports_check told before now s status r e d is refuses accepts =
+    subst (ReportsCheck told) (sym (e ∙ ap bare_report d)) (check_stops told before now s is refuses accepts)

@@ -26,32 +26,39 @@ was_read told (text.TooLong bytes) h = inr h
 too_many : (bytes all : List ℕ) → (more : List ℕ) × (all ≡ bytes ++ more) → script_limit < length bytes → script_limit < length all
 too_many bytes all m h = omega (arith, ap length m.1, length-append bytes m.0, h)
 
-long_fault : (bytes all : List ℕ) (line kind : ℕ) → script_limit < length bytes → script_limit < length all → ScriptFault all line kind → ScriptFault bytes line kind
+long_fault : (bytes all : List ℕ) (line kind : ℕ) → script_limit < length bytes → script_limit < length all → ScriptFault all line kind
+    → ScriptFault bytes line kind
 long_fault bytes all line kind few many (inl (k, e, inl f)) = inl (k, e, inl (record { size = few; at = f.at; is_long = f.is_long }))
 long_fault bytes all line kind few many (inl (k, e, inr f)) = absurd (omega (arith, f.0, many))
 long_fault bytes all line kind few many (inr f) = absurd (omega (arith, f.1.size, many))
 
-long_fault_for : (command : Command) (bytes all : List ℕ) (line kind : ℕ) → script_limit < length bytes → script_limit < length all → FaultFor command all line kind → FaultFor command bytes line kind
+long_fault_for : (command : Command) (bytes all : List ℕ) (line kind : ℕ) → script_limit < length bytes → script_limit < length all
+    → FaultFor command all line kind → FaultFor command bytes line kind
 long_fault_for (Run config) bytes all line kind few many (inl f) = inl (long_fault bytes all line kind few many f)
 long_fault_for (Run config) bytes all line kind few many (inr u) = absurd (omega (arith, u.is_script.reads.size, many))
 long_fault_for Check bytes all line kind few many f = long_fault bytes all line kind few many f
 
 -- the fault of what a source tells is that of what was read
-fault_of : (command : Command) (told : Option (List ℕ)) (bytes all : List ℕ) (line kind : ℕ) → WasRead told bytes → told ≡ Some all → FaultFor command all line kind → FaultFor command bytes line kind
+fault_of : (command : Command) (told : Option (List ℕ)) (bytes all : List ℕ) (line kind : ℕ) → WasRead told bytes → told ≡ Some all
+    → FaultFor command all line kind → FaultFor command bytes line kind
 fault_of command told bytes all line kind (inl h) tells f =
     let same : all ≡ bytes = subst (λ t. Had t bytes) tells h.0 in subst (λ b. FaultFor command b line kind) same f
 fault_of command told bytes all line kind (inr h) tells f =
-    let more : (more : List ℕ) × (all ≡ bytes ++ more) = subst (λ t. Began t bytes) tells h.0 in long_fault_for command bytes all line kind h.1 (too_many bytes all more h.1) f
+    let more : (more : List ℕ) × (all ≡ bytes ++ more) = subst (λ t. Began t bytes) tells h.0 in
+    long_fault_for command bytes all line kind h.1 (too_many bytes all more h.1) f
 
-pub source_refuses : {T : Type 0} (command : Command) (told : Option (List ℕ)) (bytes : List ℕ) (r : Result T Stop) → WasRead told bytes → ((line kind : ℕ) → FaultFor command bytes line kind → Refuses line kind r)
+pub source_refuses : {T : Type 0} (command : Command) (told : Option (List ℕ)) (bytes : List ℕ) (r : Result T Stop) → WasRead told bytes
+    → ((line kind : ℕ) → FaultFor command bytes line kind → Refuses line kind r)
     → (line kind : ℕ) → TellsFault command told line kind → Refuses line kind r
 source_refuses command told bytes r read h line kind t = h line kind (fault_of command told bytes t.bytes line kind read t.tells t.fault)
 
 -- a script that a source tells is what was read
-script_read : (told : Option (List ℕ)) (bytes all : List ℕ) (script : List Proc) → WasRead told bytes → told ≡ Some all → IsScript all script → IsScript bytes script
+script_read : (told : Option (List ℕ)) (bytes all : List ℕ) (script : List Proc) → WasRead told bytes → told ≡ Some all
+    → IsScript all script → IsScript bytes script
 script_read told bytes all script (inl h) tells is = let same : all ≡ bytes = subst (λ t. Had t bytes) tells h.0 in subst (λ b. IsScript b script) same is
 script_read told bytes all script (inr h) tells is =
-    let more : (more : List ℕ) × (all ≡ bytes ++ more) = subst (λ t. Began t bytes) tells h.0 in absurd (omega (arith, too_many bytes all more h.1, is.reads.size))
+    let more : (more : List ℕ) × (all ≡ bytes ++ more) = subst (λ t. Began t bytes) tells h.0 in
+    absurd (omega (arith, too_many bytes all more h.1, is.reads.size))
 
 pub script_told : (command : Command) (told : Option (List ℕ)) (bytes : List ℕ) → WasRead told bytes → (t : TellsScript command told) → IsScript bytes t.script
 script_told command told bytes read t = script_read told bytes t.bytes t.script read t.tells t.is_script
@@ -62,12 +69,14 @@ had_script told bytes script (inl h) is = h.0
 had_script told bytes script (inr h) is = absurd (omega (arith, h.1, is.reads.size))
 
 -- ---- why a source stops a command
-stop_at : (command : Command) (told : Option (List ℕ)) (bytes : List ℕ) (before now : ℕ) (stop : Stop) → WasRead told bytes → StopsFor command bytes stop → IsStop command told before now stop
+stop_at : (command : Command) (told : Option (List ℕ)) (bytes : List ℕ) (before now : ℕ) (stop : Stop) → WasRead told bytes
+    → StopsFor command bytes stop → IsStop command told before now stop
 stop_at command told bytes before now ReadFault read h = absurd h
 stop_at command told bytes before now (Refused line kind) read h = record { bytes = bytes; read = read; fault = h }
 stop_at command told bytes before now NoMemory read h = tt
 
-pub source_stops : {T : Type 0} (command : Command) (told : Option (List ℕ)) (bytes : List ℕ) (before now : ℕ) (r : Result T Stop) → WasRead told bytes → IfErr r (StopsFor command bytes) → IfErr r (IsStop command told before now)
+pub source_stops : {T : Type 0} (command : Command) (told : Option (List ℕ)) (bytes : List ℕ) (before now : ℕ) (r : Result T Stop)
+    → WasRead told bytes → IfErr r (StopsFor command bytes) → IfErr r (IsStop command told before now)
 source_stops command told bytes before now (Ok v) read h = h
 source_stops command told bytes before now (Err stop) read h = stop_at command told bytes before now stop read h
 

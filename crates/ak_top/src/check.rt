@@ -31,16 +31,20 @@ pub fn check_words<S: Source, K: Sink>(
 ) -> Report
     requires { slice_get words.now 0 ≡ Some (codes "check") }
     ensures reports { Means words.now Check → ReportsCheck (S.left source.old) result }
-    ensures took { Means words.now Check → Took result.status (K.taken sink.old) (K.taken sink.new) valid_line }
+    ensures took { Means words.now Check
+        → Took result.status (K.taken sink.old) (K.taken sink.new) valid_line }
 
     // words that are no command
-    ensures usage { (place : ℕ) → (result.status ≡ Status.Usage place) ↔ IsUsageFault words.now place }
+    ensures usage { (place : ℕ) → (result.status ≡ Status.Usage place)
+        ↔ IsUsageFault words.now place }
     ensures bare { is_carried_out result.status ≡ false → K.taken sink.new ≡ K.taken sink.old }
     ensures without { (result.trace ≡ []) × (result.history ≡ []) }
 
     // faults of reading and writing come only where a count rose, and without them a script that is valid is found so
-    ensures read_fault { result.status ≡ Status.ReadFault → IsCommand words.now × Rose (S.faults source.old) (S.faults source.new) }
-    ensures write_fault { result.status ≡ Status.WriteFault → IsCommand words.now × Rose (K.faults sink.old) (K.faults sink.new) }
+    ensures read_fault { result.status ≡ Status.ReadFault
+        → IsCommand words.now × Rose (S.faults source.old) (S.faults source.new) }
+    ensures write_fault { result.status ≡ Status.WriteFault
+        → IsCommand words.now × Rose (K.faults sink.old) (K.faults sink.new) }
     ensures complete { Means words.now Check → TellsScript Check (S.left source.old)
         → (Rose (S.faults source.old) (S.faults source.new) → ⊥) → (Rose (K.faults sink.old) (K.faults sink.new) → ⊥)
         → EndsWell result.status }
@@ -73,8 +77,10 @@ pub(crate) fn check_command<S: Source, K: Sink>(
 ) -> Report
     ensures reports { ReportsCheck (S.left source.old) result }
     ensures took { Took result.status (K.taken sink.old) (K.taken sink.new) valid_line }
-    ensures read_fault { result.status ≡ Status.ReadFault → Rose (S.faults source.old) (S.faults source.new) }
-    ensures write_fault { result.status ≡ Status.WriteFault → Rose (K.faults sink.old) (K.faults sink.new) }
+    ensures read_fault { result.status ≡ Status.ReadFault
+        → Rose (S.faults source.old) (S.faults source.new) }
+    ensures write_fault { result.status ≡ Status.WriteFault
+        → Rose (K.faults sink.old) (K.faults sink.new) }
     ensures source_faults { S.faults source.old ≤ S.faults source.new }
     ensures sink_faults { K.faults sink.old ≤ K.faults sink.new }
 {

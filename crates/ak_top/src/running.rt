@@ -55,10 +55,13 @@ pub fn run_source<S: Source, L: Labor + Drop, R: Threads + Wait + Sync>(
     requires hands { AreUnused L.carried config.threads hands.items }
     ensures ran { IfOk result.0 (λ ran. IsRun config (S.left source.old) ran.trace ran.history) }
     ensures finished { IfOk result.0 (λ ran. IsFinished (status_of ran.trace)) }
-    ensures carried { IfOk result.0 (λ ran. HaveCarried L.carried hands.items result.1.items ran.history) }
+    ensures carried { IfOk result.0
+        (λ ran. HaveCarried L.carried hands.items result.1.items ran.history) }
     ensures kept { IfErr result.0 (AreKept hands.items result.1.items) }
-    ensures stop { IfErr result.0 (IsStop (Run config) (S.left source.old) (S.faults source.old) (S.faults source.new)) }
-    ensures refuses { (line kind : ℕ) → TellsFault (Run config) (S.left source.old) line kind → Refuses line kind result.0 }
+    ensures stop { IfErr result.0
+        (IsStop (Run config) (S.left source.old) (S.faults source.old) (S.faults source.new)) }
+    ensures refuses { (line kind : ℕ) → TellsFault (Run config) (S.left source.old) line kind
+        → Refuses line kind result.0 }
     ensures accepts { TellsScript (Run config) (S.left source.old) → Accepts result.0 }
     ensures faults { S.faults source.old ≤ S.faults source.new }
 {
@@ -71,8 +74,10 @@ pub fn run_source<S: Source, L: Labor + Drop, R: Threads + Wait + Sync>(
 /// Reads a script and tests it.
 pub fn check_source<S: Source>(alloc: Global, source: &mut S) -> Result<(), Stop>
     ensures valid { OnOk result (IsValidSource (S.left source.old)) }
-    ensures stop { IfErr result (IsStop Check (S.left source.old) (S.faults source.old) (S.faults source.new)) }
-    ensures refuses { (line kind : ℕ) → TellsFault Check (S.left source.old) line kind → Refuses line kind result }
+    ensures stop { IfErr result
+        (IsStop Check (S.left source.old) (S.faults source.old) (S.faults source.new)) }
+    ensures refuses { (line kind : ℕ) → TellsFault Check (S.left source.old) line kind
+        → Refuses line kind result }
     ensures accepts { TellsScript Check (S.left source.old) → Accepts result }
     ensures faults { S.faults source.old ≤ S.faults source.new }
 {
@@ -86,7 +91,8 @@ pub fn check_source<S: Source>(alloc: Global, source: &mut S) -> Result<(), Stop
 fn check_bytes(alloc: Global, bytes: &[u8]) -> Result<(), Stop>
     ensures valid { OnOk result ((script : List Proc) × IsScript bytes.now script) }
     ensures stop { IfErr result (StopsFor Check bytes.now) }
-    ensures refuses { (line kind : ℕ) → FaultFor Check bytes.now line kind → Refuses line kind result }
+    ensures refuses { (line kind : ℕ) → FaultFor Check bytes.now line kind
+        → Refuses line kind result }
     ensures accepts { (script : List Proc) → IsScript bytes.now script → Accepts result }
 {
     match load(alloc, bytes) {
@@ -109,11 +115,14 @@ fn run_bytes<L: Labor + Drop, R: Threads + Wait + Sync>(
     requires hands { AreUnused L.carried config.threads hands.items }
     ensures ran { IfOk result.0 (λ ran. RunsTo config bytes.now ran.trace ran.history) }
     ensures finished { IfOk result.0 (λ ran. IsFinished (status_of ran.trace)) }
-    ensures carried { IfOk result.0 (λ ran. HaveCarried L.carried hands.items result.1.items ran.history) }
+    ensures carried { IfOk result.0
+        (λ ran. HaveCarried L.carried hands.items result.1.items ran.history) }
     ensures kept { IfErr result.0 (AreKept hands.items result.1.items) }
     ensures stop { IfErr result.0 (StopsFor (Run config) bytes.now) }
-    ensures refuses { (line kind : ℕ) → FaultFor (Run config) bytes.now line kind → Refuses line kind result.0 }
-    ensures accepts { (script : List Proc) → IsScript bytes.now script → AreBuilt (numbered script) → Accepts result.0 }
+    ensures refuses { (line kind : ℕ) → FaultFor (Run config) bytes.now line kind
+        → Refuses line kind result.0 }
+    ensures accepts { (script : List Proc) → IsScript bytes.now script
+        → AreBuilt (numbered script) → Accepts result.0 }
 {
     match load_built(alloc, bytes) {
         Ok(program) => run_program(rt, alloc, config, bytes, program, hands),
@@ -138,7 +147,8 @@ fn run_program<L: Labor + Drop, R: Threads + Wait + Sync>(
     requires built { AreBuilt program.procs }
     ensures ran { IfOk result.0 (λ ran. RunsTo config bytes.now ran.trace ran.history) }
     ensures finished { IfOk result.0 (λ ran. IsFinished (status_of ran.trace)) }
-    ensures carried { IfOk result.0 (λ ran. HaveCarried L.carried hands.items result.1.items ran.history) }
+    ensures carried { IfOk result.0
+        (λ ran. HaveCarried L.carried hands.items result.1.items ran.history) }
     ensures stop { IfErr result.0 (λ stop. stop ≡ Stop.NoMemory) }
 {
     match crew(rt, alloc, program, config, hands) {
@@ -158,8 +168,10 @@ fn load_built(alloc: Global, bytes: &[u8]) -> Result<Program, Stop>
     ensures program { IfOk result (IsProgramOf bytes.now) }
     ensures built { IfOk result (λ program. AreBuilt program.procs) }
     ensures stop { (config : Settings) → IfErr result (StopsFor (Run config) bytes.now) }
-    ensures refuses { (config : Settings) (line kind : ℕ) → FaultFor (Run config) bytes.now line kind → Refuses line kind result }
-    ensures accepts { (script : List Proc) → IsScript bytes.now script → AreBuilt (numbered script) → Accepts result }
+    ensures refuses { (config : Settings) (line kind : ℕ)
+        → FaultFor (Run config) bytes.now line kind → Refuses line kind result }
+    ensures accepts { (script : List Proc) → IsScript bytes.now script
+        → AreBuilt (numbered script) → Accepts result }
 {
     match load(alloc, bytes) {
         Ok(program) => match first_unbuilt(&program) {

@@ -57,21 +57,32 @@ pub fn top<S: Source, K: Sink, L: Labor + Drop, R: Threads + Wait + Sync>(
     requires hands { (length hands.items ≡ 32) × AllByRecursion (λ h. L.carried h ≡ 0) hands.items }
 
     // the headline stands in the report of a run
-    ensures reports { (command : Order) → Means words.now command → Reports command (S.left source.old) result.0 }
-    ensures took { (command : Order) → Means words.now command → Took result.0.status (K.taken sink.old) (K.taken sink.new) (output_of command result.0.trace result.0.history) }
+    ensures reports { (command : Order) → Means words.now command
+        → Reports command (S.left source.old) result.0 }
+    ensures took { (command : Order) → Means words.now command
+        → Took result.0.status (K.taken sink.old) (K.taken sink.new)
+        (output_of command result.0.trace result.0.history) }
 
     // the hands, by the command and its status
-    ensures hands { (command : Order) → Means words.now command → AreAfter L.carried hands.items result.1.items command result.0 }
-    ensures unused { (place : ℕ) → result.0.status ≡ Status.Usage place → result.1.items ≡ hands.items }
+    ensures hands { (command : Order) → Means words.now command
+        → AreAfter L.carried hands.items result.1.items command result.0 }
+    ensures unused { (place : ℕ) → result.0.status ≡ Status.Usage place
+        → result.1.items ≡ hands.items }
 
     // words that are no command
-    ensures usage { (place : ℕ) → (result.0.status ≡ Status.Usage place) ↔ IsUsageFault words.now place }
-    ensures bare { is_carried_out result.0.status ≡ false → (result.0.trace ≡ []) × (result.0.history ≡ []) × (K.taken sink.new ≡ K.taken sink.old) }
+    ensures usage { (place : ℕ) → (result.0.status ≡ Status.Usage place)
+        ↔ IsUsageFault words.now place }
+    ensures bare { is_carried_out result.0.status ≡ false
+        → (result.0.trace ≡ []) × (result.0.history ≡ [])
+        × (K.taken sink.new ≡ K.taken sink.old) }
 
     // faults of reading and writing come only where a count rose, and without them a script that can be run is run
-    ensures read_fault { result.0.status ≡ Status.ReadFault → IsCommand words.now × Rose (S.faults source.old) (S.faults source.new) }
-    ensures write_fault { result.0.status ≡ Status.WriteFault → IsCommand words.now × Rose (K.faults sink.old) (K.faults sink.new) }
-    ensures complete { (command : Order) → Means words.now command → TellsScript command (S.left source.old)
+    ensures read_fault { result.0.status ≡ Status.ReadFault
+        → IsCommand words.now × Rose (S.faults source.old) (S.faults source.new) }
+    ensures write_fault { result.0.status ≡ Status.WriteFault
+        → IsCommand words.now × Rose (K.faults sink.old) (K.faults sink.new) }
+    ensures complete { (command : Order) → Means words.now command
+        → TellsScript command (S.left source.old)
         → (Rose (S.faults source.old) (S.faults source.new) → ⊥) → (Rose (K.faults sink.old) (K.faults sink.new) → ⊥)
         → EndsWell result.0.status }
     ensures source_faults { S.faults source.old ≤ S.faults source.new }
@@ -98,10 +109,14 @@ fn run_command<S: Source, K: Sink, L: Labor + Drop, R: Threads + Wait + Sync>(
     requires askers { config.askers ≡ 0 }
     requires hands { AreUnused L.carried config.threads hands.items }
     ensures reports { ReportsRun config (S.left source.old) result.0 }
-    ensures took { Took result.0.status (K.taken sink.old) (K.taken sink.new) (output result.0.trace result.0.history) }
-    ensures hands { AreAfterRun L.carried hands.items result.1.items result.0.history result.0.status }
-    ensures read_fault { result.0.status ≡ Status.ReadFault → Rose (S.faults source.old) (S.faults source.new) }
-    ensures write_fault { result.0.status ≡ Status.WriteFault → Rose (K.faults sink.old) (K.faults sink.new) }
+    ensures took { Took result.0.status (K.taken sink.old) (K.taken sink.new)
+        (output result.0.trace result.0.history) }
+    ensures hands { AreAfterRun L.carried hands.items result.1.items result.0.history
+        result.0.status }
+    ensures read_fault { result.0.status ≡ Status.ReadFault
+        → Rose (S.faults source.old) (S.faults source.new) }
+    ensures write_fault { result.0.status ≡ Status.WriteFault
+        → Rose (K.faults sink.old) (K.faults sink.new) }
     ensures usage { (place : ℕ) → result.0.status ≢ Status.Usage place }
     ensures source_faults { S.faults source.old ≤ S.faults source.new }
     ensures sink_faults { K.faults sink.old ≤ K.faults sink.new }
@@ -118,9 +133,12 @@ fn write_run<K: Sink>(ran: Ran, sink: &mut K) -> Report
     requires { IsFinished (status_of ran.trace) }
     ensures trace { result.trace ≡ ran.trace }
     ensures history { result.history ≡ ran.history }
-    ensures status { IsStatusOf (status_of ran.trace) result.status ⊎ (result.status ≡ Status.WriteFault) }
-    ensures took { Took result.status (K.taken sink.old) (K.taken sink.new) (output ran.trace ran.history) }
-    ensures write_fault { result.status ≡ Status.WriteFault → Rose (K.faults sink.old) (K.faults sink.new) }
+    ensures status { IsStatusOf (status_of ran.trace) result.status
+        ⊎ (result.status ≡ Status.WriteFault) }
+    ensures took { Took result.status (K.taken sink.old) (K.taken sink.new)
+        (output ran.trace ran.history) }
+    ensures write_fault { result.status ≡ Status.WriteFault
+        → Rose (K.faults sink.old) (K.faults sink.new) }
     ensures faults { K.faults sink.old ≤ K.faults sink.new }
 {
     let Ran { trace, history } = ran;

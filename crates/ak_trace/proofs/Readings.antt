@@ -29,7 +29,8 @@ no_bad_in_a_trace bytes entries line h b = none_bad IsEntry entries (counting_li
 pub one_bad_line : (bytes : List ℕ) (l m : ℕ) → HasBadLine bytes l → HasBadLine bytes m → l ≡ m
 one_bad_line bytes l m a b = one_first_bad IsEntry (counting_lines bytes) l m a b
 
-pub right_trace : (bytes : List ℕ) (answer : Result (List Entry) TraceRefused) → IsRight bytes answer → (entries : List Entry) → TraceReads bytes entries → IsTrace answer entries
+pub right_trace : (bytes : List ℕ) (answer : Result (List Entry) TraceRefused) → IsRight bytes answer → (entries : List Entry)
+    → TraceReads bytes entries → IsTrace answer entries
 right_trace bytes (Ok entries) right wanted h = one_trace bytes entries wanted right h
 right_trace bytes (Err (BadLine line)) right wanted h = no_bad_in_a_trace bytes wanted line h right
 right_trace bytes (Err NoMemory) right wanted h = tt
@@ -101,7 +102,8 @@ plain_rows (e ∷ entries) h = ((has_words e, h.0), plain_rows entries h.1)
 pub trace_reads_back : (entries : List Entry) → AllByRecursion IsInRange entries → TraceReads (trace_text entries) entries
 trace_reads_back entries h =
     by_rows entry_row IsRow entries (counting_lines (trace_text entries))
-    (subst (λ (text : List ℕ). AllZip IsRow (map entry_row entries) (counting_lines text)) (sym (text_by_rows entries)) (reads_back (map entry_row entries) (plain_rows entries h)))
+    (subst (λ (text : List ℕ). AllZip IsRow (map entry_row entries) (counting_lines text)) (sym (text_by_rows entries))
+    (reads_back (map entry_row entries) (plain_rows entries h)))
 
 -- ---- one or the other
 entry_or_none : (line : TextLine) → ((e : Entry) × IsEntry e line) ⊎ ((e : Entry) → IsEntry e line → ⊥)

@@ -10,7 +10,8 @@ use crate::entry::{Entry, Trace};
 
 /// No text is two traces.
 pub fn one_reading()
-    ensures { (bytes : List ℕ) (a b : List OneEntry) → TraceReads bytes a → TraceReads bytes b → a ≡ b }
+    ensures { (bytes : List ℕ) (a b : List OneEntry) → TraceReads bytes a → TraceReads bytes b
+        → a ≡ b }
 {}
 
 /// No text has two first bad lines.
@@ -20,17 +21,20 @@ pub fn one_bad_line()
 
 /// No trace has a bad line.
 pub fn no_bad_line_in_a_trace()
-    ensures { (bytes : List ℕ) (entries : List OneEntry) (line : ℕ) → TraceReads bytes entries → HasBadLine bytes line → ⊥ }
+    ensures { (bytes : List ℕ) (entries : List OneEntry) (line : ℕ) → TraceReads bytes entries
+        → HasBadLine bytes line → ⊥ }
 {}
 
 /// Each text is a trace or has a bad line.
 pub fn trace_or_bad_line()
-    ensures { (bytes : List ℕ) → ((entries : List OneEntry) × TraceReads bytes entries) ⊎ ((line : ℕ) × HasBadLine bytes line) }
+    ensures { (bytes : List ℕ) → ((entries : List OneEntry) × TraceReads bytes entries)
+        ⊎ ((line : ℕ) × HasBadLine bytes line) }
 {}
 
 /// The text of entries whose numbers lie in their ranges is read back as these entries.
 pub fn text_reads_back()
-    ensures { (entries : List OneEntry) → AllByRecursion IsInRange entries → TraceReads (trace_text entries) entries }
+    ensures { (entries : List OneEntry) → AllByRecursion IsInRange entries
+        → TraceReads (trace_text entries) entries }
 {}
 
 /// The text of a trace is read back as that trace. It looks at each entry once, and only proofs want it.

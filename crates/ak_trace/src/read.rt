@@ -23,7 +23,8 @@ use std::alloc::Global;
 pub fn read_trace(alloc: Global, bytes: &[u8]) -> Result<Trace, TraceRefused>
     requires { length bytes.now < 4294967295 }
     ensures right { IsRight bytes.now result }
-    ensures trace { (entries : List OneEntry) → TraceReads bytes.now entries → IsTrace result entries }
+    ensures trace { (entries : List OneEntry) → TraceReads bytes.now entries
+        → IsTrace result entries }
     ensures bad { (line : ℕ) → HasBadLine bytes.now line → IsBad result line }
 {
     let mut entries = Items::make(alloc);
@@ -38,7 +39,8 @@ pub fn read_trace(alloc: Global, bytes: &[u8]) -> Result<Trace, TraceRefused>
 /// The entry of a line.
 fn read_entry(line: &Line) -> Result<Entry, TraceRefused>
     ensures ok { IfOk result (λ e. IsEntry e line.now) }
-    ensures err { IfErr result (λ r. (r ≡ BadLine line.now.number) × ((e : OneEntry) → IsEntry e line.now → ⊥)) }
+    ensures err { IfErr result (λ r. (r ≡ BadLine line.now.number)
+        × ((e : OneEntry) → IsEntry e line.now → ⊥)) }
 {
     match entry(line) {
         Some(entry) => Ok(entry),

@@ -39,7 +39,8 @@ times_contains n (m ∷ ms) h = dite (ℕ_discrete m n)
 -- a number that differs from each of a list stands nowhere in it
 times_none : (n : ℕ) (ms : List ℕ) → Each (λ y. nat_eq n y ≡ false) ms → times n ms ≡ 0
 times_none n [] h = refl
-times_none n (m ∷ ms) h = let rest : times n ms ≡ 0 = times_none n ms h.1 in let here : bit (eqb m n) ≡ 0 = dite (ℕ_discrete m n) (λ e. cc) (miss m n) in omega arith
+times_none n (m ∷ ms) h = let rest : times n ms ≡ 0 = times_none n ms h.1 in
+    let here : bit (eqb m n) ≡ 0 = dite (ℕ_discrete m n) (λ e. cc) (miss m n) in omega arith
 
 -- in a list of distinct numbers each stands once at most
 pub distinct_times : (ms : List ℕ) → IsDistinct nat_eq ms → (n : ℕ) → times n ms ≤ 1
@@ -92,29 +93,35 @@ module _ {E : Type 0} where
 
   pub by-entries : (n : ℕ) (es : List E) → events_by n (entries n es) ≡ es
   by-entries n [] = refl
-  by-entries n (e ∷ es) = let rest : List (ℕ × E) = filter (λ x. eqb x.0 n) (entries n es) in ap (λ b. events (cond b ((n, e) ∷ rest) rest)) (eq-eqb n n refl) ∙ ap (λ l. e ∷ l) (by-entries n es)
+  by-entries n (e ∷ es) = let rest : List (ℕ × E) = filter (λ x. eqb x.0 n) (entries n es) in
+      ap (λ b. events (cond b ((n, e) ∷ rest) rest)) (eq-eqb n n refl) ∙ ap (λ l. e ∷ l) (by-entries n es)
 
   by-entries_other : (m n : ℕ) (es : List E) → m ≢ n → events_by m (entries n es) ≡ []
   by-entries_other m n [] ne = refl
-  by-entries_other m n (e ∷ es) ne = let rest : List (ℕ × E) = filter (λ x. eqb x.0 m) (entries n es) in ap (λ b. events (cond b ((n, e) ∷ rest) rest)) (ne_eqb n m (λ is. ne (sym is))) ∙ by-entries_other m n es ne
+  by-entries_other m n (e ∷ es) ne = let rest : List (ℕ × E) = filter (λ x. eqb x.0 m) (entries n es) in
+      ap (λ b. events (cond b ((n, e) ∷ rest) rest)) (ne_eqb n m (λ is. ne (sym is))) ∙ by-entries_other m n es ne
 
   by_grown : (m n : ℕ) (f : List (ℕ × E)) (es : List E) → m ≢ n → events_by m (f ++ entries n es) ≡ events_by m f
   by_grown m n f es ne = by-append m f (entries n es) ∙ (ap (λ l. events_by m f ++ l) (by-entries_other m n es ne) ∙ append-nil (events_by m f))
 
-  spares_stay : (f : List (ℕ × E)) (n : ℕ) (es : List E) (ms : List ℕ) → Each (λ m. m ≢ n) ms → Each (λ m. events_by m f ≡ []) ms → Each (λ m. events_by m (f ++ entries n es) ≡ []) ms
+  spares_stay : (f : List (ℕ × E)) (n : ℕ) (es : List E) (ms : List ℕ) → Each (λ m. m ≢ n) ms → Each (λ m. events_by m f ≡ []) ms
+      → Each (λ m. events_by m (f ++ entries n es) ≡ []) ms
   spares_stay f n es [] a b = tt
   spares_stay f n es (m ∷ ms) a b = (by_grown m n f es a.0 ∙ b.0, spares_stay f n es ms a.1 b.1)
 
   -- the pass that adds the events
-  pub own_knows : (f : List (ℕ × E)) (k : PassState E) (es : List E) → KnowsLog f k → times k.number k.spare ≡ 0 → (g : List (ℕ × E)) → g ≡ f ++ entries k.number es
+  pub own_knows : (f : List (ℕ × E)) (k : PassState E) (es : List E) → KnowsLog f k → times k.number k.spare ≡ 0 → (g : List (ℕ × E))
+      → g ≡ f ++ entries k.number es
       → KnowsLog (f ++ entries k.number es) record { number = k.number; spare = k.spare; seen = g; mine = k.mine ++ es }
-  own_knows f k es h free g is = let n : ℕ = k.number in let grows : events_by n (f ++ entries n es) ≡ k.mine ++ es = by-append n f (entries n es) ∙ (λ i. h.own i ++ by-entries n es i) in record {
-    rest = [];
-    begins = sym is ∙ sym (append-nil g);
-    own = grows;
-    own_seen = ap (events_by n) is ∙ grows;
-    spares = spares_stay f n es k.spare (apart n k.spare free) h.spares;
-  }
+  own_knows f k es h free g is = let n : ℕ = k.number in
+      let grows : events_by n (f ++ entries n es) ≡ k.mine ++ es = by-append n f (entries n es) ∙ (λ i. h.own i ++ by-entries n es i) in
+      record {
+        rest = [];
+        begins = sym is ∙ sym (append-nil g);
+        own = grows;
+        own_seen = ap (events_by n) is ∙ grows;
+        spares = spares_stay f n es k.spare (apart n k.spare free) h.spares;
+      }
 
   -- a pass of other numbers
   other_knows : (f : List (ℕ × E)) (n : ℕ) (es : List E) (k : PassState E) → KnowsLog f k → Each (λ m. m ≢ n) (numbers_of k) → KnowsLog (f ++ entries n es) k
@@ -126,15 +133,25 @@ module _ {E : Type 0} where
     spares = spares_stay f n es k.spare ne.1 h.spares;
   }
 
-  pub others_know : (f : List (ℕ × E)) (n : ℕ) (es : List E) (ks : List (PassState E)) → Each (KnowsLog f) ks → total (λ k. times n (numbers_of k)) ks ≡ 0 → Each (KnowsLog (f ++ entries n es)) ks
+  pub others_know : (f : List (ℕ × E)) (n : ℕ) (es : List E) (ks : List (PassState E)) → Each (KnowsLog f) ks
+      → total (λ k. times n (numbers_of k)) ks ≡ 0 → Each (KnowsLog (f ++ entries n es)) ks
   others_know f n es [] h free = tt
   others_know f n es (k ∷ ks) h free = (other_knows f n es k h.0 (apart n (numbers_of k) (omega arith)), others_know f n es ks h.1 (omega arith))
 
   -- the pass that is split, and the new one
-  pub keeper_knows : (f : List (ℕ × E)) (k : PassState E) (n : ℕ) (ns : List ℕ) → k.spare ≡ n ∷ ns → KnowsLog f k → KnowsLog f record { number = k.number; spare = ns; seen = k.seen; mine = k.mine }
-  keeper_knows f k n ns is h = record { rest = h.rest; begins = h.begins; own = h.own; own_seen = h.own_seen; spares = (subst (Each (λ m. events_by m f ≡ [])) is h.spares).1 }
+  pub keeper_knows : (f : List (ℕ × E)) (k : PassState E) (n : ℕ) (ns : List ℕ) → k.spare ≡ n ∷ ns → KnowsLog f k
+      → KnowsLog f record { number = k.number; spare = ns; seen = k.seen; mine = k.mine }
+  keeper_knows f k n ns is h = record {
+    rest = h.rest;
+    begins = h.begins;
+    own = h.own;
+    own_seen = h.own_seen;
+    spares =
+        (subst (Each (λ m. events_by m f ≡ [])) is h.spares).1;
+  }
 
-  pub taker_knows : (f : List (ℕ × E)) (k : PassState E) (n : ℕ) (ns : List ℕ) → k.spare ≡ n ∷ ns → KnowsLog f k → KnowsLog f record { number = n; spare = []; seen = k.seen; mine = [] }
+  pub taker_knows : (f : List (ℕ × E)) (k : PassState E) (n : ℕ) (ns : List ℕ) → k.spare ≡ n ∷ ns → KnowsLog f k
+      → KnowsLog f record { number = n; spare = []; seen = k.seen; mine = [] }
   taker_knows f k n ns is h = let free : events_by n f ≡ [] = (subst (Each (λ m. events_by m f ≡ [])) is h.spares).0 in record {
     rest = h.rest;
     begins = h.begins;

@@ -18,7 +18,8 @@ no_ticket : (o : Option ℕ) → ticket_count o ≡ 0 → o ≡ None
 no_ticket None h = refl
 no_ticket (Some t) h = absurd (omega arith)
 
-module _ {G E : Type 0} (log_of : G → List E) (may : ℕ → E → Type 0) (fits : G → List ℕ → Type 0) (key : List ℕ) (s : State (Option G) (View E)) (r : TurnKept log_of may fits key s) where
+module _ {G E : Type 0} (log_of : G → List E) (may : ℕ → E → Type 0) (fits : G → List ℕ → Type 0) (key : List ℕ)
+    (s : State (Option G) (View E)) (r : TurnKept log_of may fits key s) where
   -- some view has each ticket from the one served to the last one drawn
   pub each_ticket_waits : (t : ℕ) → r.served ≤ t → t < r.next → (j : ℕ) × (v : View E) × (get_elem? s.views j ≡ some v) × (v.ticket ≡ Some t)
   each_ticket_waits t low high =
@@ -26,7 +27,8 @@ module _ {G E : Type 0} (log_of : G → List E) (may : ℕ → E → Type 0) (fi
       let found = total_some (tickets_at t) s.views (omega arith) in (found.0, found.1, found.2, ticket_is found.1 t found.3)
 
   -- no second view has it
-  pub one_view_each : (i j : ℕ) (v w : View E) (t : ℕ) → get_elem? s.views i ≡ some v → get_elem? s.views j ≡ some w → v.ticket ≡ Some t → w.ticket ≡ Some t → i ≡ j
+  pub one_view_each : (i j : ℕ) (v w : View E) (t : ℕ) → get_elem? s.views i ≡ some v → get_elem? s.views j ≡ some w → v.ticket ≡ Some t
+      → w.ticket ≡ Some t → i ≡ j
   one_view_each = one_seat r.served r.next s.views r.queue
 
   -- no view has a ticket beyond these
@@ -43,10 +45,12 @@ module _ {G E : Type 0} (log_of : G → List E) (may : ℕ → E → Type 0) (fi
 
   -- a view without a pass has no ticket
   pub spent_has_no_ticket : (j : ℕ) (v : View E) → get_elem? s.views j ≡ some v → v.passes ≡ [] → v.ticket ≡ None
-  spent_has_no_ticket j v at bare = let w : tickets v ≤ shares v = (r.each j v at).waits in let z : shares v ≡ 0 = ap (total share) bare in no_ticket v.ticket (omega arith)
+  spent_has_no_ticket j v at bare = let w : tickets v ≤ shares v = (r.each j v at).waits in
+      let z : shares v ≡ 0 = ap (total share) bare in no_ticket v.ticket (omega arith)
 
   -- a number stands in one view at most, once at most, and then in the list of numbers
-  pub one_view_a_number : (i j : ℕ) (v w : View E) (n : ℕ) → get_elem? s.views i ≡ some v → get_elem? s.views j ≡ some w → 1 ≤ times_in n v → 1 ≤ times_in n w → i ≡ j
+  pub one_view_a_number : (i j : ℕ) (v w : View E) (n : ℕ) → get_elem? s.views i ≡ some v → get_elem? s.views j ≡ some w
+      → 1 ≤ times_in n v → 1 ≤ times_in n w → i ≡ j
   one_view_a_number i j v w n a b has its = dite (ℕ_discrete i j) (λ e. e) (λ ne.
       let two : times_in n v + times_in n w ≤ total (times_in n) s.views = total_two (times_in n) s.views i j v w ne a b in
       let all : total (times_in n) s.views ≡ times n key = r.book.numbers n in let once : times n key ≤ 1 = r.book.distinct n in absurd (omega arith))

@@ -1,5 +1,6 @@
 -- The rule of a turn, which every step keeps.
--- Word 0 of the table is the next ticket and word 1 the ticket served, both modulo 2^64, and word 2 is the length of the log. The one slot has the value. In the rule tickets count on without end.
+-- Word 0 of the table is the next ticket and word 1 the ticket served, both modulo 2^64, and word 2 is the length of the log. The one slot
+-- has the value. In the rule tickets count on without end.
 use Rattle.std.specs.Prelude.{◌≡◌, ℕ, ◌+◌, ◌%◌, ◌^◌, ◌<◌, ◌≤◌, ◌⊎◌, ◌==◌, true, false, cond, List, [], ◌∷◌, ◌++◌, length, Option, Some, None}
 use mathlib.Core.Option.{some, none}
 use mathlib.Core.Option as maybe
@@ -71,7 +72,8 @@ module _ {E : Type 0} where
   abbrev pub IsSeenWhole : List (ℕ × E) → List (View E) → Type 0
   IsSeenWhole log views = (j : ℕ) × (v : View E) × (get_elem? views j ≡ some v) × SomeOf (λ p. p.seen ≡ log) v.passes
 
-  -- The passes have the numbers of the key, each once. Each entry of the log is allowed. Some pass has seen the whole log, and each knows it as far as it has seen.
+  -- The passes have the numbers of the key, each once. Each entry of the log is allowed. Some pass has seen the whole log, and each knows
+  -- it as far as it has seen.
   pub record LogKept (may : ℕ → E → Type 0) (key : List ℕ) (log : List (ℕ × E)) (views : List (View E)) : Type 0 where
     pub numbers : (n : ℕ) → total (times_in n) views ≡ times n key
     pub distinct : (n : ℕ) → times n key ≤ 1

@@ -12,7 +12,8 @@ pub record TurnView : Type 0 where
   pub id : TableId
   pub numbers : List ℕ
 
--- a pass: the turn that it belongs to, its number and its spare numbers, the entries that it has seen, its own events among them, whether it has the turn, and with the turn the log
+-- a pass: the turn that it belongs to, its number and its spare numbers, the entries that it has seen, its own events among them, whether
+-- it has the turn, and with the turn the log
 pub record PassView (E : Type 0) : Type 0 where
   pub id : TableId
   pub numbers : List ℕ
@@ -63,7 +64,8 @@ module _ {E : Type 0} where
   number_count p = 1 + length p.spare
 
   -- The value fits the numbers and has the log. Each entry is allowed. Some pass has seen the whole log, and it extends what each pass has seen.
-  pub record IsWhole {G : Type 0} (log_of : G → List E) (may : ℕ → E → Type 0) (fits : G → List ℕ → Type 0) (numbers : List ℕ) (ps : List (PassView E)) (x : G) : Type 0 where
+  pub record IsWhole {G : Type 0} (log_of : G → List E) (may : ℕ → E → Type 0) (fits : G → List ℕ → Type 0) (numbers : List ℕ)
+      (ps : List (PassView E)) (x : G) : Type 0 where
     pub log : List (ℕ × E)
     pub fit : fits x numbers
     pub logged : log_of x ≡ events log
@@ -74,7 +76,16 @@ module _ {E : Type 0} where
   -- the view of a seat that has this one pass
   abbrev pub pass_view_of : TableId → List ℕ → Bool → List (ℕ × E) → List (PassState E) → PassView E
   pass_view_of id numbers has was [] = record { id = id; numbers = numbers; number = 0; spare = []; seen = []; mine = []; has_turn = has; was = was }
-  pass_view_of id numbers has was (k ∷ ks) = record { id = id; numbers = numbers; number = k.number; spare = k.spare; seen = k.seen; mine = k.mine; has_turn = has; was = was }
+  pass_view_of id numbers has was (k ∷ ks) = record {
+    id = id;
+    numbers = numbers;
+    number = k.number;
+    spare = k.spare;
+    seen = k.seen;
+    mine = k.mine;
+    has_turn = has;
+    was = was;
+  }
 
   -- what callers see of a seat's view
   abbrev pub pass_view : TableId → View E → PassView E

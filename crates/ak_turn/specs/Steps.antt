@@ -95,7 +95,8 @@ module _ {G E : Type 0} where
     module _ (may : ℕ → E → Type 0) (fits : G → List ℕ → Type 0) where
       -- what comes with the turn: the value in the slot, which fits, and the log, which is the value's
       abbrev pub Entered : Me (Option G) (View E) → Me (Option G) (View E) → Type 0
-      Entered m m' = (x : G) × (log : List (ℕ × E)) × (m' ≡ (with_turn m.0 log, (0, Some x) ∷ m.1)) × fits x m.0.numbers × (log_of x ≡ events log) × IsLog may m.0.numbers log × Each (KnowsLog log) m.0.passes
+      Entered m m' = (x : G) × (log : List (ℕ × E)) × (m' ≡ (with_turn m.0 log, (0, Some x) ∷ m.1)) × fits x m.0.numbers
+          × (log_of x ≡ events log) × IsLog may m.0.numbers log × Each (KnowsLog log) m.0.passes
 
       -- where the seat's ticket is served it has the turn then, and else nothing has changed
       abbrev pub Looks : Step (Option G) → Me (Option G) (View E) → ℕ → Me (Option G) (View E) → Type 0
@@ -103,7 +104,8 @@ module _ {G E : Type 0} where
 
       -- the holder may give this value back: it fits, and its log is the log with events that the pass may give
       abbrev pub MayLeave : Me (Option G) (View E) → PassState E → G → Type 0
-      MayLeave m p x = fits x m.0.numbers × (log_of x ≡ events m.0.was ++ drop (length m.0.was) (log_of x)) × Each (may p.number) (drop (length m.0.was) (log_of x))
+      MayLeave m p x = fits x m.0.numbers × (log_of x ≡ events m.0.was ++ drop (length m.0.was) (log_of x))
+          × Each (may p.number) (drop (length m.0.was) (log_of x))
 
       -- at the end, with the passes of all numbers: the value fits and has the log, which some pass has seen whole
       abbrev pub IsAll : List ℕ → List (PassState E) → G → Type 0

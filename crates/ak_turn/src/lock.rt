@@ -108,7 +108,8 @@ impl<G: Guarded> Turn<G> {
             × IsDistinct nat_eq numbers.now }
 
         ensures turn { IfOk result (λ t. t.0.numbers ≡ numbers.now) }
-        ensures pass { IfOk result (λ t. (numbers.now ≡ t.1.number ∷ t.1.spare) × (t.1 ≡ new_pass_of t.0 t.1.number t.1.spare [])) }
+        ensures pass { IfOk result (λ t. (numbers.now ≡ t.1.number ∷ t.1.spare)
+            × (t.1 ≡ new_pass_of t.0 t.1.number t.1.spare [])) }
         ensures err { IfErr result (λ r. r.value ≡ value) }
     {
         let made = numbers.len() as u32;
@@ -148,7 +149,8 @@ impl<G: Guarded> Turn<G> {
         requires { IsIdleOf self.now pass.old }
         ensures pass { pass.new ≡ entered pass.old result.was }
         ensures held { (result.id ≡ self.now.id) × (result.number ≡ pass.old.number) }
-        ensures value { G.fits result.value self.now.numbers × (G.log result.value ≡ events result.was) }
+        ensures value { G.fits result.value self.now.numbers
+            × (G.log result.value ≡ events result.was) }
         ensures extends { Extends pass.old result.was }
         ensures log { IsLog G.may self.now.numbers result.was }
     {
@@ -162,15 +164,19 @@ impl<G: Guarded> Turn<G> {
     /// seen the whole log. It takes no memory.
     pub fn leave(&self, pass: &mut Pass<G>, held: Held<G>)
         requires turn { IsOf self.now pass.old × (pass.old.has_turn ≡ true) }
-        requires held { (held.id ≡ pass.old.id) × (held.number ≡ pass.old.number) × (held.was ≡ pass.old.was) }
+        requires held { (held.id ≡ pass.old.id) × (held.number ≡ pass.old.number)
+            × (held.was ≡ pass.old.was) }
         requires value { G.fits held.value self.now.numbers }
-        requires log { (es : List G.Event) × (length es ≤ 1) × (G.log held.value ≡ events held.was ++ es)
+        requires log { (es : List G.Event) × (length es ≤ 1)
+            × (G.log held.value ≡ events held.was ++ es)
             × Each (G.may pass.old.number) es }
 
         ensures pass { IsIdleOf self.now pass.new × (pass.new.number ≡ pass.old.number)
             × (pass.new.spare ≡ pass.old.spare) }
-        ensures log { (es : List G.Event) → G.log held.value ≡ events held.was ++ es → pass.new ≡ left pass.old held.was es }
-        ensures seen { IsLog G.may self.now.numbers pass.new.seen × (events pass.new.seen ≡ G.log held.value) }
+        ensures log { (es : List G.Event) → G.log held.value ≡ events held.was ++ es
+            → pass.new ≡ left pass.old held.was es }
+        ensures seen { IsLog G.may self.now.numbers pass.new.seen
+            × (events pass.new.seen ≡ G.log held.value) }
     {
         let Held { value, shown: _ } = held;
         let ticket = pass.ticket;
@@ -184,7 +190,9 @@ impl<G: Guarded> Turn<G> {
         ensures ok { IfOk result (λ x. sum_by number_count passes.items ≡ length self.numbers) }
         ensures whole { IfOk result (IsWhole G.log G.may G.fits self.numbers passes.items) }
         ensures err { IfErr result (λ e. sum_by number_count passes.items ≢ length self.numbers) }
-        ensures missing { IfErr result (IsMissing (min (sum_by number_count passes.items) 4294967295) (length self.numbers)) }
+        ensures missing { IfErr result
+            (IsMissing (min (sum_by number_count passes.items) 4294967295)
+            (length self.numbers)) }
         ensures back { IfErr result (HandsBack self passes.items) }
     {
         let given = given(passes.as_slice());
@@ -224,7 +232,9 @@ impl<G: Guarded> Held<G> {
 
     /// Lends the value to be changed.
     pub fn value_mut(&mut self) -> &mut G
-        ensures* writes_back { sem 𝓛 (Lends (the_row G.row G.Event.row G.Guarded) G.row self.entry result (λ w. record self.old { value = w })) }
+        ensures* writes_back { sem 𝓛
+            (Lends (the_row G.row G.Event.row G.Guarded) G.row self.entry result
+            (λ w. record self.old { value = w })) }
         ensures value { result.now ≡ self.old.value }
     {
         &mut self.value
@@ -246,10 +256,18 @@ fn given<G: Guarded>(passes: &[Pass<G>]) -> u32
 fn gather_all<G: Guarded>(table: &Desk<G>, mut passes: Vec<Pass<G>>) -> Place<G>
     requires table { (table.now.shared.table_id.words ≡ 3) × (table.now.shared.table_id.slots ≡ 1)
         × (0 < length passes.items) }
-    requires passes { Each (IsIdleOf record { id = table.now.shared.table_id; numbers = table.now.shared.key.items }) passes.items }
+    requires passes { Each (IsIdleOf record {
+      id = table.now.shared.table_id;
+      numbers =
+          table.now.shared.key.items;
+    }) passes.items }
     ensures seat { (result.table_id ≡ table.now.shared.table_id) × (result.me.0.ticket ≡ None)
         × (result.me.0.has_turn ≡ false) }
-    ensures passes { idle_passes record { id = table.now.shared.table_id; numbers = table.now.shared.key.items } result.me.0.passes ≡ passes.items }
+    ensures passes { idle_passes record {
+      id = table.now.shared.table_id;
+      numbers =
+          table.now.shared.key.items;
+    } result.me.0.passes ≡ passes.items }
 {
     let Some(last) = passes.pop() else {
         unreachable!()

@@ -98,7 +98,8 @@ pub fn enter<G: Guarded, R: Wait>(rt: &R, desk: &Desk<G>, seat: &mut Place<G>) -
     ensures seat { (seat.new.table_id ≡ seat.old.table_id) × (seat.new.id ≡ seat.old.id) }
     ensures view { (t : ℕ) × (result.0 ≡ t % 2 ^ 64)
         × (seat.new.me ≡ (with_turn (with_ticket seat.old.me.0 t) seat.new.me.0.was, (0, None) ∷ [])) }
-    ensures value { G.fits result.1 seat.old.me.0.numbers × (G.log result.1 ≡ events seat.new.me.0.was) }
+    ensures value { G.fits result.1 seat.old.me.0.numbers
+        × (G.log result.1 ≡ events seat.new.me.0.was) }
     ensures log { IsLog G.may seat.old.me.0.numbers seat.new.me.0.was
         × Each (KnowsLog seat.new.me.0.was) seat.old.me.0.passes }
 {
@@ -129,7 +130,8 @@ pub fn write_log<G: Guarded>(desk: &Desk<G>, seat: &mut Place<G>, length: u64)
         × (seat.old.me.0.passes ≡ p ∷ []) × MayLeave G.log G.may G.fits seat.old.me p x
         × (length ≡ list_length (G.log x)) × (length < 2 ^ 63) }
     ensures seat { (seat.new.table_id ≡ seat.old.table_id) × (seat.new.id ≡ seat.old.id) }
-    ensures view { seat.new.me ≡ (logged seat.old.me.0 (news G.log seat.old.me.0.was seat.old.me.1), seat.old.me.1) }
+    ensures view { seat.new.me
+        ≡ (logged seat.old.me.0 (news G.log seat.old.me.0.was seat.old.me.1), seat.old.me.1) }
     ensures log { IsLog G.may seat.old.me.0.numbers seat.new.me.0.was }
 {
     desk.shared.store::<Log<G>>(seat, LENGTH, length);
@@ -173,7 +175,8 @@ pub fn leave<G: Guarded>(desk: &Desk<G>, seat: &mut Place<G>, ticket: u64, value
 /// The first spare number goes to a new seat.
 pub fn split<G: Guarded>(desk: &Desk<G>, seat: &mut Place<G>) -> Place<G>
     requires desk { SitsAt desk.now.shared.table_id seat.old.table_id }
-    requires spare { (p : PassState G.Event) × (n : ℕ) × (ns : List ℕ) × (seat.old.me.0.passes ≡ p ∷ [])
+    requires spare { (p : PassState G.Event) × (n : ℕ) × (ns : List ℕ)
+        × (seat.old.me.0.passes ≡ p ∷ [])
         × (p.spare ≡ n ∷ ns) }
     ensures seat { (seat.new.table_id ≡ seat.old.table_id) × (seat.new.id ≡ seat.old.id)
         × (result.table_id ≡ seat.old.table_id) }
@@ -195,7 +198,8 @@ pub fn show<G: Guarded>(desk: &Desk<G>, seat: &mut Place<G>) -> Place<G>
 
 /// One seat has the passes of both, its own first.
 pub fn gather<G: Guarded>(desk: &Desk<G>, seat: &mut Place<G>, other: Place<G>)
-    requires desk { SitsAt desk.now.shared.table_id seat.old.table_id × (other.table_id ≡ seat.old.table_id) }
+    requires desk { SitsAt desk.now.shared.table_id seat.old.table_id
+        × (other.table_id ≡ seat.old.table_id) }
     requires idle { (1 ≤ shares seat.old.me.0) × IsIdle other.me.0 × (other.me.1 ≡ []) }
     ensures seat { (seat.new.table_id ≡ seat.old.table_id) × (seat.new.id ≡ seat.old.id) }
     ensures view { seat.new.me ≡ (gathered seat.old.me.0 other.me.0, seat.old.me.1) }
@@ -207,8 +211,10 @@ pub fn gather<G: Guarded>(desk: &Desk<G>, seat: &mut Place<G>, other: Place<G>)
 /// back.
 pub fn make<G: Guarded>(alloc: Global, value: G, numbers: &[u32]) -> Result<(Desk<G>, Place<G>), G>
     requires value { G.fits value numbers.now × (G.log value ≡ []) }
-    requires numbers { (0 < length numbers.now) × (length numbers.now < 4294967295) × IsDistinct nat_eq numbers.now }
-    ensures ok { IfOk result (λ t. SitsAt t.0.shared.table_id t.1.table_id × (t.0.shared.key.items ≡ numbers.now) × (t.1.me ≡ (newcomer numbers.now, []))) }
+    requires numbers { (0 < length numbers.now) × (length numbers.now < 4294967295)
+        × IsDistinct nat_eq numbers.now }
+    ensures ok { IfOk result (λ t. SitsAt t.0.shared.table_id t.1.table_id
+        × (t.0.shared.key.items ≡ numbers.now) × (t.1.me ≡ (newcomer numbers.now, []))) }
     ensures err { IfErr result (λ x. x ≡ value) }
 {
     let Ok(key) = Vec::from_slice(alloc, numbers) else {

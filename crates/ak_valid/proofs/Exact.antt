@@ -107,7 +107,9 @@ num_only kind = (λ h. cc, λ h. cc)
 use_known : (known : List Param) (used : Use) → Iff (use_faults known used ≡ []) (IsKnown known used)
 use_known known used = of (local_named known used.name)
   where
-    of : (o : Option Param) → Iff (option_map_or (λ param. kind_faults param.kind used.wanted) o (UnknownName ∷ []) ≡ []) (MatchOption o ⊥ (λ param. Any (Serves param.kind) used.wanted))
+    of : (o : Option Param)
+        → Iff (option_map_or (λ param. kind_faults param.kind used.wanted) o (UnknownName ∷ []) ≡ [])
+        (MatchOption o ⊥ (λ param. Any (Serves param.kind) used.wanted))
     of None = (λ h. cc, λ h. absurd h)
     of (Some param) = kinds_serve param.kind used.wanted
 
@@ -119,7 +121,9 @@ passed_fits : (known : List Param) (a : Atom) (param : Param) → Iff (passed_fa
 passed_fits known (Literal n) param = num_only param.kind
 passed_fits known (Local name) param = use_known known (local name param.kind)
 
-known_name : (known : List Param) (name : List ℕ) (wanted : List Kind) → MatchOption (local_named known name) ⊥ (λ param. Any (Serves param.kind) wanted) → option_map_or (λ param. []) (local_named known name) (UnknownName ∷ []) ≡ []
+known_name : (known : List Param) (name : List ℕ) (wanted : List Kind)
+    → MatchOption (local_named known name) ⊥ (λ param. Any (Serves param.kind) wanted)
+    → option_map_or (λ param. []) (local_named known name) (UnknownName ∷ []) ≡ []
 known_name known name wanted h = of (local_named known name) h
   where
     of : (o : Option Param) → MatchOption o ⊥ (λ param. Any (Serves param.kind) wanted) → option_map_or (λ (param : Param). []) o (UnknownName ∷ []) ≡ []
@@ -130,7 +134,8 @@ passed_known : (known : List Param) (a : Atom) (param : Param) → IsPassed know
 passed_known known (Literal n) param h = refl
 passed_known known (Local name) param h = known_name known name (param.kind ∷ []) h
 
-args_fit : (known : List Param) (args : List Atom) (params : List Param) → args_faults known args params ≡ [] → length args ≡ length params → AllZip (IsPassed known) args params
+args_fit : (known : List Param) (args : List Atom) (params : List Param) → args_faults known args params ≡ []
+    → length args ≡ length params → AllZip (IsPassed known) args params
 args_fit known [] [] h size = tt
 args_fit known [] (param ∷ params) h size = absurd (omega (arith, size))
 args_fit known (a ∷ args) [] h size = absurd (omega (arith, size))
@@ -157,14 +162,19 @@ fits_args known (a ∷ args) (param ∷ params) h =
 
 count_then : (params : List Param) (callee : Callee) → Iff (count_faults params callee ≡ []) (callee.front + length callee.args ≡ length params)
 count_then params callee =
-    let test = unless_none ((callee.front + length callee.args) == length params) WrongCount in
-    (λ h. let yes : ((callee.front + length callee.args) == length params) ≡ true = test.0 h in grind (arith, nat_tests), λ h. test.1 (grind (arith, nat_tests)))
+    let test = unless_none ((callee.front + length callee.args) == length params) WrongCount in (
+      λ h. let yes : ((callee.front + length callee.args) == length params) ≡ true =
+          test.0 h in grind (arith, nat_tests),
+      λ h. test.1 (grind (arith, nat_tests)),
+    )
 
-takes_fits : (known params : List Param) (callee : Callee) → Iff ((flat_map (unknown_faults known) callee.args ≡ []) × (takes_faults known params callee ≡ [])) (Takes known params callee)
+takes_fits : (known params : List Param) (callee : Callee)
+    → Iff ((flat_map (unknown_faults known) callee.args ≡ []) × (takes_faults known params callee ≡ [])) (Takes known params callee)
 takes_fits known params callee =
     let fronts = flat_iff front_faults (λ (param : Param). param.kind ≡ of_kind.Num) (λ (param : Param). num_only param.kind) (take callee.front params) in
     let count = count_then params callee in
-    let parts = nil_both (flat_map front_faults (take callee.front params) ++ args_faults known callee.args (drop callee.front params)) (count_faults params callee) in
+    let parts = nil_both (flat_map front_faults (take callee.front params) ++ args_faults known callee.args (drop callee.front params))
+    (count_faults params callee) in
     let two = nil_both (flat_map front_faults (take callee.front params)) (args_faults known callee.args (drop callee.front params)) in (
       λ h.
           let total : callee.front + length callee.args ≡ length params = count.0 (parts.0 h.1).1 in
@@ -185,8 +195,11 @@ takes_fits known params callee =
 callee_fits : (procs : List Proc) (known : List Param) (callee : Callee) → Iff (callee_faults procs known callee ≡ []) (IsCallable procs known callee)
 callee_fits procs known callee = of (proc_named procs callee.name)
   where
-    of : (o : Option Proc) → Iff (flat_map (unknown_faults known) callee.args ++ option_map_or (λ proc. takes_faults known proc.params callee) o (UnknownName ∷ []) ≡ []) (MatchOption o ⊥ (λ proc. Takes known proc.params callee))
-    of None = let both = nil_both (flat_map (unknown_faults known) callee.args) (UnknownName ∷ []) in (λ h. let none : UnknownName ∷ [] ≡ [] = (both.0 h).1 in cc, λ h. absurd h)
+    of : (o : Option Proc)
+        → Iff (flat_map (unknown_faults known) callee.args ++ option_map_or (λ proc. takes_faults known proc.params callee) o
+        (UnknownName ∷ []) ≡ []) (MatchOption o ⊥ (λ proc. Takes known proc.params callee))
+    of None = let both = nil_both (flat_map (unknown_faults known) callee.args) (UnknownName ∷ []) in
+        (λ h. let none : UnknownName ∷ [] ≡ [] = (both.0 h).1 in cc, λ h. absurd h)
     of (Some proc) =
         let both = nil_both (flat_map (unknown_faults known) callee.args) (takes_faults known proc.params callee) in
         let fits = takes_fits known proc.params callee in
@@ -245,17 +258,20 @@ fine_append (x ∷ xs) ys = let later = fine_append xs ys in (λ h. ((h.0, (late
 distinct_known : (known more : List Param) → AreDistinct (param_names (known ++ more)) → AreDistinct (param_names known)
 distinct_known known more h = distinct_front (param_names known) (param_names more) (subst AreDistinct (names_append known more) h)
 
-body_fits : (procs : List Proc) (known : List Param) (body : List Statement) → AreDistinct (param_names known) → Iff (AreFine (body_lines procs known body)) (LinesAreValid procs known body × AreDistinct (param_names (known ++ all_binds body)))
+body_fits : (procs : List Proc) (known : List Param) (body : List Statement) → AreDistinct (param_names known)
+    → Iff (AreFine (body_lines procs known body)) (LinesAreValid procs known body × AreDistinct (param_names (known ++ all_binds body)))
 body_fits procs known [] distinct = (λ h. (tt, subst (λ (k : List Param). AreDistinct (param_names k)) (sym (append-nil known)) distinct), λ h. tt)
 body_fits procs known (statement ∷ body) distinct =
     let here = statement_fits procs known statement distinct in
-    let regroup : (known ++ binds statement.stmt) ++ all_binds body ≡ known ++ (binds statement.stmt ++ all_binds body) = append_assoc known (binds statement.stmt) (all_binds body) in (
+    let regroup : (known ++ binds statement.stmt) ++ all_binds body ≡ known ++ (binds statement.stmt ++ all_binds body) =
+    append_assoc known (binds statement.stmt) (all_binds body) in (
       λ h.
           let now = here.0 h.0 in
           let later = (body_fits procs (known ++ binds statement.stmt) body now.1).0 h.1 in
           ((now.0, later.0), subst (λ (k : List Param). AreDistinct (param_names k)) regroup later.1),
       λ h.
-          let whole : AreDistinct (param_names ((known ++ binds statement.stmt) ++ all_binds body)) = subst (λ (k : List Param). AreDistinct (param_names k)) (sym regroup) h.1 in
+          let whole : AreDistinct (param_names ((known ++ binds statement.stmt) ++ all_binds body)) =
+          subst (λ (k : List Param). AreDistinct (param_names k)) (sym regroup) h.1 in
           let grown = distinct_known (known ++ binds statement.stmt) (all_binds body) whole in
           (here.1 (h.0.0, grown), (body_fits procs (known ++ binds statement.stmt) body grown).1 (h.0.1, whole)),
     )
@@ -265,7 +281,8 @@ body_fits procs known (statement ∷ body) distinct =
 abbrev pub IsBare : Proc → Type 0
 IsBare proc = main_faults proc ≡ []
 
-head_fits : (before : List (List ℕ)) (proc : Proc) → AreDistinct before → Iff (head_faults before proc ≡ []) (AreDistinct (before ++ proc.name ∷ []) × AreDistinct (param_names proc.params) × IsBare proc)
+head_fits : (before : List (List ℕ)) (proc : Proc) → AreDistinct before
+    → Iff (head_faults before proc ≡ []) (AreDistinct (before ++ proc.name ∷ []) × AreDistinct (param_names proc.params) × IsBare proc)
 head_fits before proc distinct =
     let one : List FaultKind = twice_named before (proc.name ∷ []) in
     let two : List FaultKind = twice_named [] (param_names proc.params) in
@@ -277,7 +294,8 @@ head_fits before proc distinct =
       λ h. outer.1 (inner.1 (named.1 h.0, params.1 h.1), h.2),
     )
 
-proc_fits : (procs : List Proc) (before : List (List ℕ)) (proc : Proc) → AreDistinct before → Iff (AreFine (proc_lines procs before proc)) (AreDistinct (before ++ proc.name ∷ []) × ProcIsValid procs proc × IsBare proc)
+proc_fits : (procs : List Proc) (before : List (List ℕ)) (proc : Proc) → AreDistinct before
+    → Iff (AreFine (proc_lines procs before proc)) (AreDistinct (before ++ proc.name ∷ []) × ProcIsValid procs proc × IsBare proc)
 proc_fits procs before proc distinct =
     let head = head_fits before proc distinct in (
       λ h.
@@ -290,12 +308,14 @@ proc_fits procs before proc distinct =
     )
 
 procs_fit : (procs : List Proc) (before : List (List ℕ)) (rest : List Proc) → AreDistinct before
-    → Iff (AreFine (procs_lines procs before rest)) (AreDistinct (before ++ proc_names rest) × AllByRecursion (ProcIsValid procs) rest × AllByRecursion IsBare rest)
+    → Iff (AreFine (procs_lines procs before rest)) (AreDistinct (before ++ proc_names rest) × AllByRecursion (ProcIsValid procs) rest
+    × AllByRecursion IsBare rest)
 procs_fit procs before [] distinct = (λ h. (subst AreDistinct (sym (append-nil before)) distinct, tt, tt), λ h. tt)
 procs_fit procs before (proc ∷ rest) distinct =
     let here = proc_fits procs before proc distinct in
     let both = fine_append (proc_lines procs before proc) (procs_lines procs (before ++ proc.name ∷ []) rest) in
-    let regroup : (before ++ proc.name ∷ []) ++ proc_names rest ≡ before ++ proc.name ∷ proc_names rest = append_assoc before (proc.name ∷ []) (proc_names rest) in (
+    let regroup : (before ++ proc.name ∷ []) ++ proc_names rest ≡ before ++ proc.name ∷ proc_names rest =
+    append_assoc before (proc.name ∷ []) (proc_names rest) in (
       λ h.
           let now = here.0 (both.0 h).0 in
           let later = (procs_fit procs (before ++ proc.name ∷ []) rest now.0).0 (both.0 h).1 in
@@ -315,7 +335,9 @@ main_bare : (rest : List Proc) (main : Proc) → proc_named rest (codes "main") 
 main_bare [] main found bare = cc
 main_bare (proc ∷ rest) main found bare = of (bytes_eq (codes "main") proc.name) found bare.0 (λ t. main_bare rest main t bare.1)
   where
-    of : (b : Bool) → cond b (Some proc) (proc_named rest (codes "main")) ≡ Some main → cond b (cond (length proc.params == 0) [] (WrongCount ∷ [])) [] ≡ [] → (proc_named rest (codes "main") ≡ Some main → main.params ≡ []) → main.params ≡ []
+    of : (b : Bool) → cond b (Some proc) (proc_named rest (codes "main")) ≡ Some main
+        → cond b (cond (length proc.params == 0) [] (WrongCount ∷ [])) [] ≡ []
+        → (proc_named rest (codes "main") ≡ Some main → main.params ≡ []) → main.params ≡ []
     of true found bare later = let same : proc ≡ main = cc in ap (λ (p : Proc). p.params) (sym same) ∙ (no_params proc.params).0 bare
     of false found bare later = later found
 
@@ -331,7 +353,9 @@ bare_main : (rest : List Proc) → HasMain rest → AreDistinct (proc_names rest
 bare_main [] h distinct = absurd h
 bare_main (proc ∷ rest) h distinct = of (bytes_eq (codes "main") proc.name) refl h (λ t. bare_main rest t distinct.1)
   where
-    of : (b : Bool) → bytes_eq (codes "main") proc.name ≡ b → MatchOption (cond b (Some proc) (proc_named rest (codes "main"))) ⊥ (λ proc. proc.params ≡ []) → (HasMain rest → AllByRecursion IsBare rest)
+    of : (b : Bool) → bytes_eq (codes "main") proc.name ≡ b
+        → MatchOption (cond b (Some proc) (proc_named rest (codes "main"))) ⊥ (λ proc. proc.params ≡ [])
+        → (HasMain rest → AllByRecursion IsBare rest)
         → (cond b (cond (length proc.params == 0) [] (WrongCount ∷ [])) [] ≡ []) × AllByRecursion IsBare rest
     of true e h later = ((no_params proc.params).1 h, others_bare proc.name rest ((bytes_eq-Decides (codes "main") proc.name).0 e) distinct.0)
     of false e h later = (refl, later h)
@@ -340,7 +364,8 @@ bare_main (proc ∷ rest) h distinct = of (bytes_eq (codes "main") proc.name) re
 main_there : (script : List Proc) → (line_zero script).faults ≡ [] → AllByRecursion IsBare script → HasMain script
 main_there script h bare = of (proc_named script (codes "main")) refl h
   where
-    of : (o : Option Proc) → proc_named script (codes "main") ≡ o → option_map_or (λ (proc : Proc). []) o (NoMain ∷ []) ≡ [] → MatchOption o ⊥ (λ proc. proc.params ≡ [])
+    of : (o : Option Proc) → proc_named script (codes "main") ≡ o → option_map_or (λ (proc : Proc). []) o (NoMain ∷ []) ≡ []
+        → MatchOption o ⊥ (λ proc. proc.params ≡ [])
     of None found h = cc
     of (Some main) found h = main_bare script main found bare
 
@@ -376,7 +401,8 @@ first_fine (line ∷ lines) =
       λ h. rw (here.1 h.0) (later.1 h.1),
     )
   where
-    parted : (o : Option FaultKind) (rest : Option (ℕ × ℕ)) → option_map_or (λ kind. Some (line.number, kind_number kind)) o rest ≡ None → (o ≡ None) × (rest ≡ None)
+    parted : (o : Option FaultKind) (rest : Option (ℕ × ℕ)) → option_map_or (λ kind. Some (line.number, kind_number kind)) o rest ≡ None
+        → (o ≡ None) × (rest ≡ None)
     parted None rest h = (refl, h)
     parted (Some kind) rest h = cc
 
@@ -399,7 +425,8 @@ pub fault_range : (lines : List Line) (line number : ℕ) → first_fault lines 
 fault_range [] line number h = cc
 fault_range (x ∷ lines) line number h = of (least x.faults) h (λ t. fault_range lines line number t)
   where
-    of : (o : Option FaultKind) → option_map_or (λ kind. Some (x.number, kind_number kind)) o (first_fault lines) ≡ Some (line, number) → (first_fault lines ≡ Some (line, number) → (5 ≤ number) × (number ≤ 9)) → (5 ≤ number) × (number ≤ 9)
+    of : (o : Option FaultKind) → option_map_or (λ kind. Some (x.number, kind_number kind)) o (first_fault lines) ≡ Some (line, number)
+        → (first_fault lines ≡ Some (line, number) → (5 ≤ number) × (number ≤ 9)) → (5 ≤ number) × (number ≤ 9)
     of None h later = later h
     of (Some kind) h later =
         let both : (let p : ℕ × ℕ = (x.number, kind_number kind) in p) ≡ (line, number) = cc in

@@ -20,14 +20,16 @@ any_here P x xs p = (0, x, omega arith, refl, p)
 any_later : {X : Type 0} (P : X → Type 0) (x : X) (xs : List X) → Any P xs → Any P (x ∷ xs)
 any_later P x xs h = (suc h.0, h.1, omega (arith, h.2), h.3, h.4)
 
-all_below : (a b : ℕ) → b ≤ a → (kinds : List FaultKind) → AllByRecursion (λ fault. a ≤ kind_number fault) kinds → AllByRecursion (λ fault. b ≤ kind_number fault) kinds
+all_below : (a b : ℕ) → b ≤ a → (kinds : List FaultKind) → AllByRecursion (λ fault. a ≤ kind_number fault) kinds
+    → AllByRecursion (λ fault. b ≤ kind_number fault) kinds
 all_below a b l [] h = tt
 all_below a b l (k ∷ kinds) h = (omega (arith, l, h.0), all_below a b l kinds h.1)
 
 some_is : (a b : FaultKind) → Some a ≡ Some b → a ≡ b
 some_is a b h = cc
 
-least_by : (x k rest : FaultKind) (kinds : List FaultKind) (b : Bool) → nat_lt (kind_number rest) (kind_number x) ≡ b → IsLeast rest kinds → cond b rest x ≡ k → IsLeast k (x ∷ kinds)
+least_by : (x k rest : FaultKind) (kinds : List FaultKind) (b : Bool) → nat_lt (kind_number rest) (kind_number x) ≡ b → IsLeast rest kinds
+    → cond b rest x ≡ k → IsLeast k (x ∷ kinds)
 least_by x k rest kinds true t h e = subst (λ j. IsLeast j (x ∷ kinds)) e (record {
   of_one = any_later (λ fault. kind_number rest ≡ kind_number fault) x kinds h.of_one;
   least = (grind (arith, nat_tests), h.least);
@@ -37,10 +39,12 @@ least_by x k rest kinds false t h e = subst (λ j. IsLeast j (x ∷ kinds)) e (r
   least = (omega arith, all_below (kind_number rest) (kind_number x) (grind (arith, nat_tests)) kinds h.least);
 })
 
-least_of : (x k : FaultKind) (kinds : List FaultKind) (o : Option FaultKind) → ((j : FaultKind) → o ≡ Some j → IsLeast j kinds) → (o ≡ None → kinds ≡ []) → lesser (Some x) o ≡ Some k → IsLeast k (x ∷ kinds)
+least_of : (x k : FaultKind) (kinds : List FaultKind) (o : Option FaultKind) → ((j : FaultKind) → o ≡ Some j → IsLeast j kinds)
+    → (o ≡ None → kinds ≡ []) → lesser (Some x) o ≡ Some k → IsLeast k (x ∷ kinds)
 least_of x k kinds None h none e =
     let same : x ≡ k = some_is x k e
-    in rw (none refl) (subst (λ j. IsLeast j (x ∷ [])) same (record { of_one = any_here (λ fault. kind_number x ≡ kind_number fault) x [] refl; least = (omega arith, tt) }))
+    in rw (none refl) (subst (λ j. IsLeast j (x ∷ [])) same
+    (record { of_one = any_here (λ fault. kind_number x ≡ kind_number fault) x [] refl; least = (omega arith, tt) }))
 least_of x k kinds (Some rest) h none e = least_by x k rest kinds (nat_lt (kind_number rest) (kind_number x)) refl (h rest refl) (some_is _ _ e)
 
 none_by : (x : FaultKind) (o : Option FaultKind) → lesser (Some x) o ≡ None → ⊥
@@ -83,7 +87,8 @@ here_is x lines k l = record {
   least = l.least;
 }
 
-first_by : (x : Line) (lines : List Line) (line kind : ℕ) (o : Option FaultKind) → least x.faults ≡ o → (first_fault lines ≡ Some (line, kind) → IsFirstFault lines line kind)
+first_by : (x : Line) (lines : List Line) (line kind : ℕ) (o : Option FaultKind) → least x.faults ≡ o
+    → (first_fault lines ≡ Some (line, kind) → IsFirstFault lines line kind)
     → option_map_or (λ k. Some (x.number, kind_number k)) o (first_fault lines) ≡ Some (line, kind) → IsFirstFault (x ∷ lines) line kind
 first_by x lines line kind None is h e = later x lines line kind (no_kinds x.faults is) (h e)
 first_by x lines line kind (Some k) is h e =
@@ -100,7 +105,8 @@ none_of [] h = refl
 none_of (x ∷ lines) h =
     ap (λ (faults : List FaultKind). option_map_or (λ k. Some (x.number, kind_number k)) (least faults) (first_fault lines)) h.0 ∙ none_of lines h.1
 
-all_at : (a : ℕ) (kinds : List FaultKind) (k : ℕ) (d : FaultKind) → k < length kinds → AllByRecursion (λ fault. a ≤ kind_number fault) kinds → a ≤ kind_number (get_or kinds k d)
+all_at : (a : ℕ) (kinds : List FaultKind) (k : ℕ) (d : FaultKind) → k < length kinds
+    → AllByRecursion (λ fault. a ≤ kind_number fault) kinds → a ≤ kind_number (get_or kinds k d)
 all_at a [] k d l h = absurd (omega (arith, l))
 all_at a (x ∷ kinds) zero d l h = h.0
 all_at a (x ∷ kinds) (suc k) d l h = all_at a kinds k d (omega (arith, l)) h.1
@@ -114,7 +120,8 @@ below_any a b kinds all any =
 not_none : (kind : ℕ) (kinds : List FaultKind) → kinds ≡ [] → Any (λ fault. kind ≡ kind_number fault) kinds → ⊥
 not_none kind kinds e any = omega (arith, ap length e, any.2)
 
-told_by : (x : Line) (kind : ℕ) (rest : Option (ℕ × ℕ)) (o : Option FaultKind) → least x.faults ≡ o → Any (λ fault. kind ≡ kind_number fault) x.faults → AllByRecursion (λ fault. kind ≤ kind_number fault) x.faults
+told_by : (x : Line) (kind : ℕ) (rest : Option (ℕ × ℕ)) (o : Option FaultKind) → least x.faults ≡ o
+    → Any (λ fault. kind ≡ kind_number fault) x.faults → AllByRecursion (λ fault. kind ≤ kind_number fault) x.faults
     → option_map_or (λ k. Some (x.number, kind_number k)) o rest ≡ Some (x.number, kind)
 told_by x kind rest None is any all = absurd (not_none kind x.faults (no_kinds x.faults is) any)
 told_by x kind rest (Some k) is any all =

@@ -41,10 +41,12 @@ least_append [] ys = refl
 least_append (x ∷ xs) ys = ap (lesser (Some x)) (least_append xs ys) ∙ sym (lesser_assoc (Some x) (least xs) (least ys))
 
 -- of the items so far and one more
-pub least_next : {A : Type 0} (f : A → List FaultKind) (xs : List A) (i : ℕ) (x : A) (old new here : Option FaultKind) → i < length xs → x ≡ get_or xs i x → old ≡ least (flat_map f (take i xs)) → here ≡ least (f x)
+pub least_next : {A : Type 0} (f : A → List FaultKind) (xs : List A) (i : ℕ) (x : A) (old new here : Option FaultKind) → i < length xs
+    → x ≡ get_or xs i x → old ≡ least (flat_map f (take i xs)) → here ≡ least (f x)
     → new ≡ lesser old here → new ≡ least (flat_map f (take (i + 1) xs))
 least_next f xs i x old new here below is so_far this joined = joined ∙ rw (so_far, this, take_next xs i x below is, flat_map-append f (take i xs) (x ∷ []))
-    (sym (least_append (flat_map f (take i xs)) (f x ++ []) ∙ ap (λ (ks : List FaultKind). lesser (least (flat_map f (take i xs))) (least ks)) (append-nil (f x))))
+    (sym (least_append (flat_map f (take i xs)) (f x ++ [])
+    ∙ ap (λ (ks : List FaultKind). lesser (least (flat_map f (take i xs))) (least ks)) (append-nil (f x))))
 
 -- two lists, one after the other
 pub least_two : (xs ys : List FaultKind) (a b c : Option FaultKind) → a ≡ least xs → b ≡ least ys → c ≡ lesser a b → c ≡ least (xs ++ ys)
@@ -62,7 +64,8 @@ drop_end (x ∷ xs) zero h = absurd (omega arith)
 drop_end (x ∷ xs) (suc i) h = drop_end xs i (omega arith)
 
 -- ---- arguments beside parameters
-pub args_next : (known : List Param) (args args_left : List Atom) (params params_left : List Param) (a : Atom) (param : Param) (all old new here : Option FaultKind) → args ≡ a ∷ args_left → params ≡ param ∷ params_left
+pub args_next : (known : List Param) (args args_left : List Atom) (params params_left : List Param) (a : Atom) (param : Param)
+    (all old new here : Option FaultKind) → args ≡ a ∷ args_left → params ≡ param ∷ params_left
     → lesser old (least (args_faults known args params)) ≡ all → here ≡ least (passed_faults known a param) → new ≡ lesser old here
     → lesser new (least (args_faults known args_left params_left)) ≡ all
 args_next known args args_left params params_left a param all old new here args_are params_are so_far this joined =

@@ -8,7 +8,8 @@ use Rattle.ak_script.specs.Statements.{binds}
 use Rattle.ak_valid.specs.Numbered.{param_names}
 use Rattle.ak_valid.proofs.Naming.{take_next}
 
-pub mapped_next : {A B : Type 0} (f : A → B) (xs : List A) (i : ℕ) (x : A) (done new : List B) (y : B) → i < length xs → x ≡ get_or xs i x → done ≡ map f (take i xs) → new ≡ done ++ y ∷ [] → y ≡ f x
+pub mapped_next : {A B : Type 0} (f : A → B) (xs : List A) (i : ℕ) (x : A) (done new : List B) (y : B) → i < length xs → x ≡ get_or xs i x
+    → done ≡ map f (take i xs) → new ≡ done ++ y ∷ [] → y ≡ f x
     → new ≡ map f (take (i + 1) xs)
 mapped_next f xs i x done new y below is so_far grown same = grown ∙ rw (so_far, same, take_next xs i x below is) (sym (map-append f (take i xs) (x ∷ [])))
 

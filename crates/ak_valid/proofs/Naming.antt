@@ -17,10 +17,12 @@ place_mapped p f (x ∷ xs) = ap (λ n. cond (not (p (f x))) (1 + n) 0) (place_m
 
 -- the names behind references, after a name is put last where it is new
 pub added : (keys new : List (Bor (List ℕ))) (k : Bor (List ℕ)) (old : List (List ℕ)) (fresh : Bool) → map (λ (x : Bor (List ℕ)). x.now) keys ≡ old
-    → fresh ≡ not (list_any (λ (x : Bor (List ℕ)). bytes_eq k.now x.now) keys) → new ≡ cond (list_any (λ (x : Bor (List ℕ)). bytes_eq k.now x.now) keys) keys (keys ++ k ∷ [])
+    → fresh ≡ not (list_any (λ (x : Bor (List ℕ)). bytes_eq k.now x.now) keys)
+    → new ≡ cond (list_any (λ (x : Bor (List ℕ)). bytes_eq k.now x.now) keys) keys (keys ++ k ∷ [])
     → (fresh ≡ not (list_any (bytes_eq k.now) old)) × (map (λ (x : Bor (List ℕ)). x.now) new ≡ cond fresh (old ++ k.now ∷ []) old)
 added keys new k old fresh is was then =
-    let same : list_any (bytes_eq k.now) old ≡ list_any (λ (x : Bor (List ℕ)). bytes_eq k.now x.now) keys = rw (sym is) (any_mapped (bytes_eq k.now) (λ (x : Bor (List ℕ)). x.now) keys) in
+    let same : list_any (bytes_eq k.now) old ≡ list_any (λ (x : Bor (List ℕ)). bytes_eq k.now x.now) keys =
+    rw (sym is) (any_mapped (bytes_eq k.now) (λ (x : Bor (List ℕ)). x.now) keys) in
     (was ∙ ap not (sym same), of (list_any (λ (x : Bor (List ℕ)). bytes_eq k.now x.now) keys) was then)
   where
     of : (b : Bool) → fresh ≡ not b → new ≡ cond b keys (keys ++ k ∷ []) → map (λ (x : Bor (List ℕ)). x.now) new ≡ cond fresh (old ++ k.now ∷ []) old

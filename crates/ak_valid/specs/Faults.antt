@@ -73,11 +73,15 @@ count_faults params callee = if (callee.front + length callee.args) == length pa
 
 -- the numbers in front and then the arguments, for these parameters
 abbrev pub takes_faults : List Param → List Param → Callee → List FaultKind
-takes_faults known params callee = flat_map front_faults (take callee.front params) ++ args_faults known callee.args (drop callee.front params) ++ count_faults params callee
+takes_faults known params callee =
+    flat_map front_faults (take callee.front params) ++ args_faults known callee.args (drop callee.front params)
+    ++ count_faults params callee
 
 -- a procedure that is called
 abbrev pub callee_faults : List Proc → List Param → Callee → List FaultKind
-callee_faults procs known callee = flat_map (unknown_faults known) callee.args ++ option_map_or (λ proc. takes_faults known proc.params callee) (proc_named procs callee.name) (UnknownName ∷ [])
+callee_faults procs known callee =
+    flat_map (unknown_faults known) callee.args ++ option_map_or (λ proc. takes_faults known proc.params callee)
+    (proc_named procs callee.name) (UnknownName ∷ [])
 
 -- ---- lines
 -- a statement behind the lines that bind the known locals
@@ -104,7 +108,8 @@ pub record Line : Type 0 where
 -- the lines of a body, each behind those that bind the known locals
 abbrev pub body_lines : List Proc → List Param → List Statement → List Line
 body_lines procs known [] = []
-body_lines procs known (statement ∷ rest) = record { number = statement.line; faults = statement_faults procs known statement } ∷ body_lines procs (known ++ binds statement.stmt) rest
+body_lines procs known (statement ∷ rest) = record { number = statement.line; faults = statement_faults procs known statement }
+    ∷ body_lines procs (known ++ binds statement.stmt) rest
 
 -- the lines of a procedure but for `end`, which has no fault
 abbrev pub proc_lines : List Proc → List (List ℕ) → Proc → List Line

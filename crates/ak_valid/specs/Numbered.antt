@@ -58,9 +58,11 @@ numbered_stmt procs locals (by_name.Fill i a) = by_place.Fill (at locals i) (num
 numbered_stmt procs locals (by_name.Offer i a) = by_place.Offer (at locals i) (numbered_atom locals a)
 numbered_stmt procs locals (by_name.Upon d proc args) = by_place.Upon (at locals d) (at procs proc) (map (numbered_atom locals) args)
 numbered_stmt procs locals (by_name.Bind r d proc args) = by_place.Bind (at locals r) (at locals d) (at procs proc) (map (numbered_atom locals) args)
-numbered_stmt procs locals (by_name.All r deferreds proc args) = by_place.All (at locals r) (map (at locals) deferreds) (at procs proc) (map (numbered_atom locals) args)
+numbered_stmt procs locals (by_name.All r deferreds proc args) =
+    by_place.All (at locals r) (map (at locals) deferreds) (at procs proc) (map (numbered_atom locals) args)
 numbered_stmt procs locals (by_name.Any r deferreds) = by_place.Any (at locals r) (map (at locals) deferreds)
-numbered_stmt procs locals (by_name.Choose r choices args) = by_place.Choose (at locals r) (map (numbered_choice procs locals) choices) (map (numbered_atom locals) args)
+numbered_stmt procs locals (by_name.Choose r choices args) =
+    by_place.Choose (at locals r) (map (numbered_choice procs locals) choices) (map (numbered_atom locals) args)
 numbered_stmt procs locals (by_name.Sched proc args) = by_place.Sched (at procs proc) (map (numbered_atom locals) args)
 numbered_stmt procs locals (by_name.Low proc args) = by_place.Low (at procs proc) (map (numbered_atom locals) args)
 numbered_stmt procs locals (by_name.Yield r) = by_place.Yield (at locals r)
@@ -76,14 +78,18 @@ numbered_stmt procs locals (by_name.OnError m proc args) = by_place.OnError (at 
 numbered_stmt procs locals (by_name.NextError r m) = by_place.NextError (at locals r) (at locals m)
 numbered_stmt procs locals (by_name.Raise a) = by_place.Raise (numbered_atom locals a)
 numbered_stmt procs locals (by_name.Send m a) = by_place.Send (at locals m) (numbered_atom locals a)
-numbered_stmt procs locals (by_name.Try r proc args catch catch_args mode) = by_place.Try (at locals r) (at procs proc) (map (numbered_atom locals) args) (at procs catch) (map (numbered_atom locals) catch_args) mode
+numbered_stmt procs locals (by_name.Try r proc args catch catch_args mode) =
+    by_place.Try (at locals r) (at procs proc) (map (numbered_atom locals) args) (at procs catch)
+    (map (numbered_atom locals) catch_args) mode
 numbered_stmt procs locals (by_name.Throttle t k stop) = by_place.Throttle (at locals t) k stop
 numbered_stmt procs locals (by_name.Enqueue r t proc args) = by_place.Enqueue (at locals r) (at locals t) (at procs proc) (map (numbered_atom locals) args)
 numbered_stmt procs locals (by_name.ThrottleDone r t) = by_place.ThrottleDone (at locals r) (at locals t)
 numbered_stmt procs locals (by_name.Pipe p b) = by_place.Pipe (at locals p) b
 numbered_stmt procs locals (by_name.Write r p a) = by_place.Write (at locals r) (at locals p) (numbered_atom locals a)
 numbered_stmt procs locals (by_name.Put p a) = by_place.Put (at locals p) (numbered_atom locals a)
-numbered_stmt procs locals (by_name.Read r p proc args eof eof_args) = by_place.Read (at locals r) (at locals p) (at procs proc) (map (numbered_atom locals) args) (at procs eof) (map (numbered_atom locals) eof_args)
+numbered_stmt procs locals (by_name.Read r p proc args eof eof_args) =
+    by_place.Read (at locals r) (at locals p) (at procs proc) (map (numbered_atom locals) args) (at procs eof)
+    (map (numbered_atom locals) eof_args)
 numbered_stmt procs locals (by_name.Close p) = by_place.Close (at locals p)
 numbered_stmt procs locals (by_name.CloseRead p) = by_place.CloseRead (at locals p)
 numbered_stmt procs locals (by_name.Flushed r p) = by_place.Flushed (at locals r) (at locals p)
@@ -102,7 +108,12 @@ numbered_prefix locals (Some (Unless a)) = Some (num_prefix.Unless (numbered_ato
 
 -- a statement with its line and its prefix
 abbrev pub numbered_statement : List (List ℕ) → List (List ℕ) → Statement → NumStatement
-numbered_statement procs names statement = record { line = statement.line; prefix = numbered_prefix names statement.prefix; stmt = numbered_stmt procs names statement.stmt }
+numbered_statement procs names statement = record {
+  line = statement.line;
+  prefix = numbered_prefix names statement.prefix;
+  stmt =
+      numbered_stmt procs names statement.stmt;
+}
 
 -- a parameter
 abbrev pub numbered_param : List (List ℕ) → Param → NumParam
@@ -115,7 +126,13 @@ param_names params = map (λ param. param.name) params
 -- a procedure, whose locals are its parameters and what its statements bind
 abbrev pub numbered_proc : List (List ℕ) → Proc → NumProc
 numbered_proc procs proc = let names : List (List ℕ) = param_names (locals proc) in
-    record { name = at procs proc.name; line = proc.line; params = map (numbered_param names) proc.params; body = map (numbered_statement procs names) proc.body }
+    record {
+      name = at procs proc.name;
+      line = proc.line;
+      params = map (numbered_param names) proc.params;
+      body =
+          map (numbered_statement procs names) proc.body;
+    }
 
 -- the names of the procedures
 abbrev pub proc_names : List Proc → List (List ℕ)

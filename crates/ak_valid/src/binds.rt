@@ -17,7 +17,9 @@ fn one<'a>(
     name: &'a Word,
     kind: Kind,
 ) -> Result<Option<FaultKind>, NoMemory>
-    ensures { IfOk result (λ fault. (fault ≡ least (twice_named (param_names locals.old) (name.now ∷ []))) × (fault ≡ None → locals.new ≡ locals.old ++ bound name.now kind ∷ [])) }
+    ensures { IfOk result
+        (λ fault. (fault ≡ least (twice_named (param_names locals.old) (name.now ∷ [])))
+        × (fault ≡ None → locals.new ≡ locals.old ++ bound name.now kind ∷ [])) }
 {
     if locals.add(name.as_slice(), kind)? {
         Ok(None)
@@ -34,7 +36,11 @@ fn two<'a>(
     second: &'a Word,
     second_kind: Kind,
 ) -> Result<Option<FaultKind>, NoMemory>
-    ensures { IfOk result (λ fault. (fault ≡ least (twice_named (param_names locals.old) (first.now ∷ second.now ∷ []))) × (fault ≡ None → locals.new ≡ locals.old ++ bound first.now first_kind ∷ bound second.now second_kind ∷ [])) }
+    ensures { IfOk result
+        (λ fault. (fault ≡ least (twice_named (param_names locals.old)
+        (first.now ∷ second.now ∷ []))) × (fault ≡ None
+        → locals.new ≡ locals.old ++ bound first.now first_kind ∷ bound second.now second_kind
+        ∷ [])) }
 {
     if !locals.add(first.as_slice(), first_kind)? {
         return Ok(Some(FaultKind::TwiceNamed));
@@ -47,7 +53,9 @@ pub fn params<'a>(
     locals: &mut Locals<'a>,
     params: &'a [Param],
 ) -> Result<Option<FaultKind>, NoMemory>
-    ensures { IfOk result (λ fault. (fault ≡ least (twice_named (param_names locals.old) (param_names params.now))) × (fault ≡ None → locals.new ≡ locals.old ++ params.now)) }
+    ensures { IfOk result
+        (λ fault. (fault ≡ least (twice_named (param_names locals.old)
+        (param_names params.now))) × (fault ≡ None → locals.new ≡ locals.old ++ params.now)) }
 {
     for param in params {
         if !locals.add(param.name.as_slice(), param.kind)? {
@@ -60,7 +68,10 @@ pub fn params<'a>(
 /// Binds the names of a statement.
 #[tactic(auto, using(crate::proofs::Binding::nothing_more))]
 pub fn statement<'a>(locals: &mut Locals<'a>, stmt: &'a Stmt) -> Result<Option<FaultKind>, NoMemory>
-    ensures { IfOk result (λ fault. (fault ≡ least (twice_named (param_names locals.old) (param_names (binds stmt.now)))) × (fault ≡ None → locals.new ≡ locals.old ++ binds stmt.now)) }
+    ensures { IfOk result
+        (λ fault. (fault ≡ least (twice_named (param_names locals.old)
+        (param_names (binds stmt.now)))) × (fault ≡ None
+        → locals.new ≡ locals.old ++ binds stmt.now)) }
 {
     match stmt {
         Stmt::Set { x, .. } => one(locals, x, Kind::Num),

@@ -71,7 +71,8 @@ fn front(params: &[Param]) -> Option<FaultKind>
 
 /// Whether so many values are as many as the parameters.
 fn count(params: &[Param], in_front: usize, args: &[Atom]) -> Option<FaultKind>
-    ensures { result ≡ least (if (in_front + length args.now) == length params.now then [] else FaultKind.WrongCount ∷ []) }
+    ensures { result ≡ least (if (in_front + length args.now)
+        == length params.now then [] else FaultKind.WrongCount ∷ []) }
 {
     if in_front <= params.len() && args.len() == params.len() - in_front {
         None
@@ -82,7 +83,9 @@ fn count(params: &[Param], in_front: usize, args: &[Atom]) -> Option<FaultKind>
 
 /// What a call passes to these parameters.
 fn takes(locals: &Locals, params: &[Param], in_front: usize, args: &[Atom]) -> Option<FaultKind>
-    ensures { (called : List ℕ) → result ≡ least (takes_faults locals.now params.now (record { name = called; front = in_front; args = args.now })) }
+    ensures { (called : List ℕ)
+        → result ≡ least (takes_faults locals.now params.now
+        (record { name = called; front = in_front; args = args.now })) }
 {
     let (numbers, rest) = params.split_at(in_front.min(params.len()));
     let kinds = lesser(front(numbers), all_passed(locals, args, rest));
@@ -97,7 +100,10 @@ fn called(
     in_front: usize,
     args: &[Atom],
 ) -> Option<FaultKind>
-    ensures { result ≡ least (option_map_or (λ found. takes_faults locals.now found.params (record { name = proc.now; front = in_front; args = args.now })) (proc_named procs.now proc.now) (FaultKind.UnknownName ∷ [])) }
+    ensures { result ≡ least
+        (option_map_or (λ found. takes_faults locals.now found.params
+        (record { name = proc.now; front = in_front; args = args.now }))
+        (proc_named procs.now proc.now) (FaultKind.UnknownName ∷ [])) }
 {
     match procs.named(proc.as_slice()) {
         None => Some(FaultKind::UnknownName),
@@ -114,7 +120,13 @@ fn call(
     in_front: usize,
     args: &[Atom],
 ) -> Option<FaultKind>
-    ensures { result ≡ least (callee_faults procs.now locals.now (record { name = proc.now; front = in_front; args = args.now })) }
+    ensures { result ≡ least
+        (callee_faults procs.now locals.now (record {
+          name = proc.now;
+          front = in_front;
+          args =
+              args.now;
+        })) }
 {
     lesser(
         any_unknown(locals, args),
@@ -130,14 +142,18 @@ fn one(
     in_front: usize,
     args: &[Atom],
 ) -> Option<FaultKind>
-    ensures { result ≡ least (flat_map (callee_faults procs.now locals.now) (record { name = proc.now; front = in_front; args = args.now } ∷ [])) }
+    ensures { result ≡ least
+        (flat_map (callee_faults procs.now locals.now)
+        (record { name = proc.now; front = in_front; args = args.now } ∷ [])) }
 {
     call(procs, locals, proc, in_front, args)
 }
 
 /// The calls of a `choose`, each with the value of a deferred.
 fn choices(procs: &Procs, locals: &Locals, choices: &[Choice], args: &[Atom]) -> Option<FaultKind>
-    ensures { result ≡ least (flat_map (callee_faults procs.now locals.now) (map (λ choice. record { name = choice.proc; front = 1; args = args.now }) choices.now)) }
+    ensures { result ≡ least
+        (flat_map (callee_faults procs.now locals.now)
+        (map (λ choice. record { name = choice.proc; front = 1; args = args.now }) choices.now)) }
 {
     let mut fault = None;
     for choice in choices {
@@ -156,7 +172,10 @@ fn trying(
     catch: &Word,
     catch_args: &Args,
 ) -> Option<FaultKind>
-    ensures { result ≡ least (flat_map (callee_faults procs.now locals.now) (record { name = proc.now; front = 0; args = args.now } ∷ record { name = catch.now; front = 1; args = catch_args.now } ∷ [])) }
+    ensures { result ≡ least
+        (flat_map (callee_faults procs.now locals.now)
+        (record { name = proc.now; front = 0; args = args.now }
+        ∷ record { name = catch.now; front = 1; args = catch_args.now } ∷ [])) }
 {
     lesser(
         call(procs, locals, proc, 0, args.as_slice()),
@@ -174,7 +193,10 @@ fn reading(
     eof: &Word,
     eof_args: &Args,
 ) -> Option<FaultKind>
-    ensures { result ≡ least (flat_map (callee_faults procs.now locals.now) (record { name = proc.now; front = 1; args = args.now } ∷ record { name = eof.now; front = 0; args = eof_args.now } ∷ [])) }
+    ensures { result ≡ least
+        (flat_map (callee_faults procs.now locals.now)
+        (record { name = proc.now; front = 1; args = args.now }
+        ∷ record { name = eof.now; front = 0; args = eof_args.now } ∷ [])) }
 {
     lesser(
         call(procs, locals, proc, 1, args.as_slice()),

@@ -24,8 +24,12 @@ fn line<'a>(
     locals: &mut Locals<'a>,
     statement: &'a Statement,
 ) -> Result<(), ValidRefused>
-    ensures ok { OnOk result ((least (statement_faults procs.now locals.old statement.now) ≡ None) × (locals.new ≡ locals.old ++ binds statement.now.stmt)) }
-    ensures err { IfErr result (λ e. Refuses (option_map_or (λ kind. Some (statement.now.line, kind_number kind)) (least (statement_faults procs.now locals.old statement.now)) None) e) }
+    ensures ok { OnOk result
+        ((least (statement_faults procs.now locals.old statement.now) ≡ None)
+        × (locals.new ≡ locals.old ++ binds statement.now.stmt)) }
+    ensures err { IfErr result
+        (λ e. Refuses (option_map_or (λ kind. Some (statement.now.line, kind_number kind))
+        (least (statement_faults procs.now locals.old statement.now)) None) e) }
 {
     let condition = uses::prefix(locals, &statement.prefix);
     let used = uses::statement(locals, &statement.stmt);
@@ -44,8 +48,10 @@ fn body<'a>(
     locals: &mut Locals<'a>,
     body: &'a [Statement],
 ) -> Result<(), ValidRefused>
-    ensures ok { OnOk result ((first_fault (body_lines procs.now locals.old body.now) ≡ None) × (locals.new ≡ locals.old ++ flat_map (λ statement. binds statement.stmt) body.now)) }
-    ensures err { IfErr result (λ e. Refuses (first_fault (body_lines procs.now locals.old body.now)) e) }
+    ensures ok { OnOk result ((first_fault (body_lines procs.now locals.old body.now) ≡ None)
+        × (locals.new ≡ locals.old ++ flat_map (λ statement. binds statement.stmt) body.now)) }
+    ensures err { IfErr result
+        (λ e. Refuses (first_fault (body_lines procs.now locals.old body.now)) e) }
 {
     for statement in body {
         line(procs, locals, statement)?;
@@ -55,7 +61,8 @@ fn body<'a>(
 
 /// The name of a procedure, which is put last where it is new.
 fn name<'a>(seen: &mut Names<'a>, proc: &'a Proc) -> Result<Option<FaultKind>, NoMemory>
-    ensures { IfOk result (λ fault. (fault ≡ least (twice_named seen.old (proc.now.name ∷ []))) × (fault ≡ None → seen.new ≡ seen.old ++ proc.now.name ∷ [])) }
+    ensures { IfOk result (λ fault. (fault ≡ least (twice_named seen.old (proc.now.name ∷ [])))
+        × (fault ≡ None → seen.new ≡ seen.old ++ proc.now.name ∷ [])) }
 {
     if seen.add(proc.name.as_slice())? {
         Ok(None)
@@ -77,8 +84,11 @@ fn main(proc: &Proc) -> Option<FaultKind>
 
 /// The first line of a procedure: its parameters as the first locals.
 fn head<'a>(alloc: Global, seen: &mut Names<'a>, proc: &'a Proc) -> Result<Locals<'a>, ValidRefused>
-    ensures ok { IfOk result (λ locals. (least (head_faults seen.old proc.now) ≡ None) × (seen.new ≡ seen.old ++ proc.now.name ∷ []) × (locals ≡ proc.now.params)) }
-    ensures err { IfErr result (λ e. Refuses (option_map_or (λ kind. Some (proc.now.line, kind_number kind)) (least (head_faults seen.old proc.now)) None) e) }
+    ensures ok { IfOk result (λ locals. (least (head_faults seen.old proc.now) ≡ None)
+        × (seen.new ≡ seen.old ++ proc.now.name ∷ []) × (locals ≡ proc.now.params)) }
+    ensures err { IfErr result
+        (λ e. Refuses (option_map_or (λ kind. Some (proc.now.line, kind_number kind))
+        (least (head_faults seen.old proc.now)) None) e) }
 {
     let mut locals = Locals::with_capacity(alloc, proc.params.len() + proc.body.len())?;
     let twice = name(seen, proc)?;
@@ -94,8 +104,11 @@ pub fn proc<'a>(
     seen: &mut Names<'a>,
     proc: &'a Proc,
 ) -> Result<Locals<'a>, ValidRefused>
-    ensures ok { IfOk result (λ locals. (first_fault (proc_lines procs.now seen.old proc.now) ≡ None) × (seen.new ≡ seen.old ++ proc.now.name ∷ []) × (locals ≡ locals_of proc.now)) }
-    ensures err { IfErr result (λ e. Refuses (first_fault (proc_lines procs.now seen.old proc.now)) e) }
+    ensures ok { IfOk result
+        (λ locals. (first_fault (proc_lines procs.now seen.old proc.now) ≡ None)
+        × (seen.new ≡ seen.old ++ proc.now.name ∷ []) × (locals ≡ locals_of proc.now)) }
+    ensures err { IfErr result
+        (λ e. Refuses (first_fault (proc_lines procs.now seen.old proc.now)) e) }
 {
     let mut locals = head(alloc, seen, proc)?;
     body(procs, &mut locals, proc.body.as_slice())?;

@@ -27,7 +27,8 @@ pub fn lesser(a: Option<FaultKind>, b: Option<FaultKind>) -> Option<FaultKind>
 /// Refuses a line by its least kind, where it has one.
 pub fn refuse(line: u32, fault: Option<FaultKind>) -> Result<(), ValidRefused>
     ensures ok { OnOk result (fault ≡ None) }
-    ensures err { IfErr result (λ e. Refuses (option_map_or (λ kind. Some (line, kind_number kind)) fault None) e) }
+    ensures err { IfErr result
+        (λ e. Refuses (option_map_or (λ kind. Some (line, kind_number kind)) fault None) e) }
 {
     match fault {
         None => Ok(()),

@@ -41,7 +41,9 @@ impl<'a> Locals<'a> {
 
     /// Puts the local last, where its name is new.
     pub fn add(&mut self, name: &'a [u8], kind: Kind) -> Result<bool, NoMemory>
-        ensures { IfOk result (λ new. (new ≡ not (list_any (bytes_eq name.now) (param_names self.old))) × (self.new ≡ (if new then self.old ++ bound name.now kind ∷ [] else self.old))) }
+        ensures { IfOk result
+            (λ new. (new ≡ not (list_any (bytes_eq name.now) (param_names self.old)))
+            × (self.new ≡ (if new then self.old ++ bound name.now kind ∷ [] else self.old))) }
     {
         if self.kinds.contains_key(&name) {
             return Ok(false);

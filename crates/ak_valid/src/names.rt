@@ -35,7 +35,8 @@ impl<'a> Names<'a> {
 
     /// Puts the name last, where it is new.
     pub fn add(&mut self, name: &'a [u8]) -> Result<bool, NoMemory>
-        ensures { IfOk result (λ new. (new ≡ not (list_any (bytes_eq name.now) self.old)) × (self.new ≡ (if new then self.old ++ name.now ∷ [] else self.old))) }
+        ensures { IfOk result (λ new. (new ≡ not (list_any (bytes_eq name.now) self.old))
+            × (self.new ≡ (if new then self.old ++ name.now ∷ [] else self.old))) }
     {
         Ok(self.names.insert(name)?)
     }

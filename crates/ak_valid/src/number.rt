@@ -25,7 +25,8 @@ fn param(locals: &Locals, param: &Param) -> NumParam
 
 /// Parameters by their places.
 fn params(alloc: Global, locals: &Locals, params: &[Param]) -> Result<Items<NumParam>, NoMemory>
-    ensures { IfOk result (λ numbered. numbered ≡ map (numbered_param (param_names locals.now)) params.now) }
+    ensures { IfOk result
+        (λ numbered. numbered ≡ map (numbered_param (param_names locals.now)) params.now) }
 {
     let mut numbered = Vec::with_capacity(alloc, params.len())?;
     for item in params {
@@ -52,7 +53,9 @@ fn line(
     locals: &Locals,
     statement: &Statement,
 ) -> Result<NumStatement, NoMemory>
-    ensures { IfOk result (λ numbered. numbered ≡ numbered_statement (proc_names procs.now) (param_names locals.now) statement.now) }
+    ensures { IfOk result
+        (λ numbered. numbered ≡ numbered_statement (proc_names procs.now)
+        (param_names locals.now) statement.now) }
 {
     Ok(NumStatement {
         line: statement.line,
@@ -68,7 +71,9 @@ fn body(
     locals: &Locals,
     body: &[Statement],
 ) -> Result<Items<NumStatement>, NoMemory>
-    ensures { IfOk result (λ numbered. numbered ≡ map (numbered_statement (proc_names procs.now) (param_names locals.now)) body.now) }
+    ensures { IfOk result
+        (λ numbered. numbered ≡ map (numbered_statement (proc_names procs.now)
+        (param_names locals.now)) body.now) }
 {
     let mut numbered = Vec::with_capacity(alloc, body.len())?;
     for statement in body {

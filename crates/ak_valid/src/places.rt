@@ -34,7 +34,8 @@ pub fn atom(locals: &Locals, a: &Atom) -> NumAtom
 
 /// Arguments.
 pub fn args(alloc: Global, locals: &Locals, args: &[Atom]) -> Result<NumArgs, NoMemory>
-    ensures { IfOk result (λ numbered. numbered ≡ map (numbered_atom (param_names locals.now)) args.now) }
+    ensures { IfOk result
+        (λ numbered. numbered ≡ map (numbered_atom (param_names locals.now)) args.now) }
 {
     let mut numbered = Vec::with_capacity(alloc, args.len())?;
     for a in args {
@@ -71,7 +72,9 @@ pub fn choices(
     locals: &Locals,
     choices: &[Choice],
 ) -> Result<NumChoices, NoMemory>
-    ensures { IfOk result (λ numbered. numbered ≡ map (numbered_choice (proc_names procs.now) (param_names locals.now)) choices.now) }
+    ensures { IfOk result
+        (λ numbered. numbered ≡ map (numbered_choice (proc_names procs.now)
+        (param_names locals.now)) choices.now) }
 {
     let mut numbered = Vec::with_capacity(alloc, choices.len())?;
     for item in choices {

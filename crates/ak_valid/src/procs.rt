@@ -42,7 +42,9 @@ impl<'a> Procs<'a> {
 
     /// Puts the procedure last, where its name is new.
     pub fn add(&mut self, proc: &'a Proc) -> Result<(), NoMemory>
-        ensures { OnOk result (self.new ≡ (if list_any (bytes_eq proc.now.name) (proc_names self.old) then self.old else self.old ++ proc.now ∷ [])) }
+        ensures { OnOk result
+            (self.new ≡ (if list_any (bytes_eq proc.now.name)
+            (proc_names self.old) then self.old else self.old ++ proc.now ∷ [])) }
     {
         let name = proc.name.as_slice();
         if !self.procs.contains_key(&name) {

@@ -21,7 +21,9 @@ pub fn statement(
     locals: &Locals,
     stmt: &Stmt,
 ) -> Result<NumStmt, NoMemory>
-    ensures { IfOk result (λ numbered. numbered ≡ numbered_stmt (proc_names procs.now) (param_names locals.now) stmt.now) }
+    ensures { IfOk result
+        (λ numbered. numbered ≡ numbered_stmt (proc_names procs.now)
+        (param_names locals.now) stmt.now) }
 {
     match stmt {
         Stmt::Set { x, a, op, b } => Ok(set(locals, x, a, *op, b)),
@@ -91,7 +93,9 @@ pub fn statement(
 }
 
 fn set(locals: &Locals, x: &Word, a: &Atom, op: Operator, b: &Atom) -> NumStmt
-    ensures { result ≡ by_place.Set (at (param_names locals.now) x.now) (numbered_atom (param_names locals.now) a.now) op (numbered_atom (param_names locals.now) b.now) }
+    ensures { result ≡ by_place.Set (at (param_names locals.now) x.now)
+        (numbered_atom (param_names locals.now) a.now) op
+        (numbered_atom (param_names locals.now) b.now) }
 {
     NumStmt::Set {
         x: locals.place(x.as_slice()),
@@ -116,7 +120,8 @@ fn ivar(locals: &Locals, i: &Word) -> NumStmt
 }
 
 fn fill(locals: &Locals, i: &Word, a: &Atom) -> NumStmt
-    ensures { result ≡ by_place.Fill (at (param_names locals.now) i.now) (numbered_atom (param_names locals.now) a.now) }
+    ensures { result ≡ by_place.Fill (at (param_names locals.now) i.now)
+        (numbered_atom (param_names locals.now) a.now) }
 {
     NumStmt::Fill {
         i: locals.place(i.as_slice()),
@@ -125,7 +130,8 @@ fn fill(locals: &Locals, i: &Word, a: &Atom) -> NumStmt
 }
 
 fn offer(locals: &Locals, i: &Word, a: &Atom) -> NumStmt
-    ensures { result ≡ by_place.Offer (at (param_names locals.now) i.now) (numbered_atom (param_names locals.now) a.now) }
+    ensures { result ≡ by_place.Offer (at (param_names locals.now) i.now)
+        (numbered_atom (param_names locals.now) a.now) }
 {
     NumStmt::Offer {
         i: locals.place(i.as_slice()),
@@ -141,7 +147,10 @@ fn upon(
     proc: &Word,
     args: &Args,
 ) -> Result<NumStmt, NoMemory>
-    ensures { IfOk result (λ stmt. stmt ≡ by_place.Upon (at (param_names locals.now) d.now) (at (proc_names procs.now) proc.now) (map (numbered_atom (param_names locals.now)) args.now)) }
+    ensures { IfOk result
+        (λ stmt. stmt ≡ by_place.Upon (at (param_names locals.now) d.now)
+        (at (proc_names procs.now) proc.now)
+        (map (numbered_atom (param_names locals.now)) args.now)) }
 {
     Ok(NumStmt::Upon {
         d: locals.place(d.as_slice()),
@@ -159,7 +168,10 @@ fn bind(
     proc: &Word,
     args: &Args,
 ) -> Result<NumStmt, NoMemory>
-    ensures { IfOk result (λ stmt. stmt ≡ by_place.Bind (at (param_names locals.now) r.now) (at (param_names locals.now) d.now) (at (proc_names procs.now) proc.now) (map (numbered_atom (param_names locals.now)) args.now)) }
+    ensures { IfOk result
+        (λ stmt. stmt ≡ by_place.Bind (at (param_names locals.now) r.now)
+        (at (param_names locals.now) d.now) (at (proc_names procs.now) proc.now)
+        (map (numbered_atom (param_names locals.now)) args.now)) }
 {
     Ok(NumStmt::Bind {
         r: locals.place(r.as_slice()),
@@ -178,7 +190,10 @@ fn all(
     proc: &Word,
     args: &Args,
 ) -> Result<NumStmt, NoMemory>
-    ensures { IfOk result (λ stmt. stmt ≡ by_place.All (at (param_names locals.now) r.now) (map (at (param_names locals.now)) deferreds.now) (at (proc_names procs.now) proc.now) (map (numbered_atom (param_names locals.now)) args.now)) }
+    ensures { IfOk result
+        (λ stmt. stmt ≡ by_place.All (at (param_names locals.now) r.now)
+        (map (at (param_names locals.now)) deferreds.now) (at (proc_names procs.now) proc.now)
+        (map (numbered_atom (param_names locals.now)) args.now)) }
 {
     Ok(NumStmt::All {
         r: locals.place(r.as_slice()),
@@ -189,7 +204,9 @@ fn all(
 }
 
 fn any(alloc: Global, locals: &Locals, r: &Word, deferreds: &Names) -> Result<NumStmt, NoMemory>
-    ensures { IfOk result (λ stmt. stmt ≡ by_place.Any (at (param_names locals.now) r.now) (map (at (param_names locals.now)) deferreds.now)) }
+    ensures { IfOk result
+        (λ stmt. stmt ≡ by_place.Any (at (param_names locals.now) r.now)
+        (map (at (param_names locals.now)) deferreds.now)) }
 {
     Ok(NumStmt::Any {
         r: locals.place(r.as_slice()),
@@ -205,7 +222,10 @@ fn choose(
     choices: &Choices,
     args: &Args,
 ) -> Result<NumStmt, NoMemory>
-    ensures { IfOk result (λ stmt. stmt ≡ by_place.Choose (at (param_names locals.now) r.now) (map (numbered_choice (proc_names procs.now) (param_names locals.now)) choices.now) (map (numbered_atom (param_names locals.now)) args.now)) }
+    ensures { IfOk result
+        (λ stmt. stmt ≡ by_place.Choose (at (param_names locals.now) r.now)
+        (map (numbered_choice (proc_names procs.now) (param_names locals.now)) choices.now)
+        (map (numbered_atom (param_names locals.now)) args.now)) }
 {
     Ok(NumStmt::Choose {
         r: locals.place(r.as_slice()),
@@ -221,7 +241,9 @@ fn sched(
     proc: &Word,
     args: &Args,
 ) -> Result<NumStmt, NoMemory>
-    ensures { IfOk result (λ stmt. stmt ≡ by_place.Sched (at (proc_names procs.now) proc.now) (map (numbered_atom (param_names locals.now)) args.now)) }
+    ensures { IfOk result
+        (λ stmt. stmt ≡ by_place.Sched (at (proc_names procs.now) proc.now)
+        (map (numbered_atom (param_names locals.now)) args.now)) }
 {
     Ok(NumStmt::Sched {
         proc: procs.place(proc.as_slice()),
@@ -236,7 +258,9 @@ fn low(
     proc: &Word,
     args: &Args,
 ) -> Result<NumStmt, NoMemory>
-    ensures { IfOk result (λ stmt. stmt ≡ by_place.Low (at (proc_names procs.now) proc.now) (map (numbered_atom (param_names locals.now)) args.now)) }
+    ensures { IfOk result
+        (λ stmt. stmt ≡ by_place.Low (at (proc_names procs.now) proc.now)
+        (map (numbered_atom (param_names locals.now)) args.now)) }
 {
     Ok(NumStmt::Low {
         proc: procs.place(proc.as_slice()),
@@ -261,7 +285,8 @@ fn never(locals: &Locals, r: &Word) -> NumStmt
 }
 
 fn after(locals: &Locals, r: &Word, n: &Atom) -> NumStmt
-    ensures { result ≡ by_place.After (at (param_names locals.now) r.now) (numbered_atom (param_names locals.now) n.now) }
+    ensures { result ≡ by_place.After (at (param_names locals.now) r.now)
+        (numbered_atom (param_names locals.now) n.now) }
 {
     NumStmt::After {
         r: locals.place(r.as_slice()),
@@ -270,7 +295,8 @@ fn after(locals: &Locals, r: &Word, n: &Atom) -> NumStmt
 }
 
 fn event(locals: &Locals, e: &Word, r: &Word, n: &Atom) -> NumStmt
-    ensures { result ≡ by_place.Event (at (param_names locals.now) e.now) (at (param_names locals.now) r.now) (numbered_atom (param_names locals.now) n.now) }
+    ensures { result ≡ by_place.Event (at (param_names locals.now) e.now)
+        (at (param_names locals.now) r.now) (numbered_atom (param_names locals.now) n.now) }
 {
     NumStmt::Event {
         e: locals.place(e.as_slice()),
@@ -309,7 +335,10 @@ fn within(
     proc: &Word,
     args: &Args,
 ) -> Result<NumStmt, NoMemory>
-    ensures { IfOk result (λ stmt. stmt ≡ by_place.Within (at (param_names locals.now) m.now) (at (proc_names procs.now) proc.now) (map (numbered_atom (param_names locals.now)) args.now)) }
+    ensures { IfOk result
+        (λ stmt. stmt ≡ by_place.Within (at (param_names locals.now) m.now)
+        (at (proc_names procs.now) proc.now)
+        (map (numbered_atom (param_names locals.now)) args.now)) }
 {
     Ok(NumStmt::Within {
         m: locals.place(m.as_slice()),
@@ -334,7 +363,10 @@ fn on_error(
     proc: &Word,
     args: &Args,
 ) -> Result<NumStmt, NoMemory>
-    ensures { IfOk result (λ stmt. stmt ≡ by_place.OnError (at (param_names locals.now) m.now) (at (proc_names procs.now) proc.now) (map (numbered_atom (param_names locals.now)) args.now)) }
+    ensures { IfOk result
+        (λ stmt. stmt ≡ by_place.OnError (at (param_names locals.now) m.now)
+        (at (proc_names procs.now) proc.now)
+        (map (numbered_atom (param_names locals.now)) args.now)) }
 {
     Ok(NumStmt::OnError {
         m: locals.place(m.as_slice()),
@@ -344,7 +376,8 @@ fn on_error(
 }
 
 fn next_error(locals: &Locals, r: &Word, m: &Word) -> NumStmt
-    ensures { result ≡ by_place.NextError (at (param_names locals.now) r.now) (at (param_names locals.now) m.now) }
+    ensures { result ≡ by_place.NextError (at (param_names locals.now) r.now)
+        (at (param_names locals.now) m.now) }
 {
     NumStmt::NextError {
         r: locals.place(r.as_slice()),
@@ -359,7 +392,8 @@ fn raise(locals: &Locals, a: &Atom) -> NumStmt
 }
 
 fn send(locals: &Locals, m: &Word, a: &Atom) -> NumStmt
-    ensures { result ≡ by_place.Send (at (param_names locals.now) m.now) (numbered_atom (param_names locals.now) a.now) }
+    ensures { result ≡ by_place.Send (at (param_names locals.now) m.now)
+        (numbered_atom (param_names locals.now) a.now) }
 {
     NumStmt::Send {
         m: locals.place(m.as_slice()),
@@ -378,7 +412,12 @@ fn trying(
     catch_args: &Args,
     mode: GuardMode,
 ) -> Result<NumStmt, NoMemory>
-    ensures { IfOk result (λ stmt. stmt ≡ by_place.Try (at (param_names locals.now) r.now) (at (proc_names procs.now) proc.now) (map (numbered_atom (param_names locals.now)) args.now) (at (proc_names procs.now) catch.now) (map (numbered_atom (param_names locals.now)) catch_args.now) mode) }
+    ensures { IfOk result
+        (λ stmt. stmt ≡ by_place.Try (at (param_names locals.now) r.now)
+        (at (proc_names procs.now) proc.now)
+        (map (numbered_atom (param_names locals.now)) args.now)
+        (at (proc_names procs.now) catch.now)
+        (map (numbered_atom (param_names locals.now)) catch_args.now) mode) }
 {
     Ok(NumStmt::Try {
         r: locals.place(r.as_slice()),
@@ -409,7 +448,10 @@ fn enqueue(
     proc: &Word,
     args: &Args,
 ) -> Result<NumStmt, NoMemory>
-    ensures { IfOk result (λ stmt. stmt ≡ by_place.Enqueue (at (param_names locals.now) r.now) (at (param_names locals.now) t.now) (at (proc_names procs.now) proc.now) (map (numbered_atom (param_names locals.now)) args.now)) }
+    ensures { IfOk result
+        (λ stmt. stmt ≡ by_place.Enqueue (at (param_names locals.now) r.now)
+        (at (param_names locals.now) t.now) (at (proc_names procs.now) proc.now)
+        (map (numbered_atom (param_names locals.now)) args.now)) }
 {
     Ok(NumStmt::Enqueue {
         r: locals.place(r.as_slice()),
@@ -420,7 +462,8 @@ fn enqueue(
 }
 
 fn throttle_done(locals: &Locals, r: &Word, t: &Word) -> NumStmt
-    ensures { result ≡ by_place.ThrottleDone (at (param_names locals.now) r.now) (at (param_names locals.now) t.now) }
+    ensures { result ≡ by_place.ThrottleDone (at (param_names locals.now) r.now)
+        (at (param_names locals.now) t.now) }
 {
     NumStmt::ThrottleDone {
         r: locals.place(r.as_slice()),
@@ -438,7 +481,8 @@ fn pipe(locals: &Locals, p: &Word, b: u32) -> NumStmt
 }
 
 fn write(locals: &Locals, r: &Word, p: &Word, a: &Atom) -> NumStmt
-    ensures { result ≡ by_place.Write (at (param_names locals.now) r.now) (at (param_names locals.now) p.now) (numbered_atom (param_names locals.now) a.now) }
+    ensures { result ≡ by_place.Write (at (param_names locals.now) r.now)
+        (at (param_names locals.now) p.now) (numbered_atom (param_names locals.now) a.now) }
 {
     NumStmt::Write {
         r: locals.place(r.as_slice()),
@@ -448,7 +492,8 @@ fn write(locals: &Locals, r: &Word, p: &Word, a: &Atom) -> NumStmt
 }
 
 fn put(locals: &Locals, p: &Word, a: &Atom) -> NumStmt
-    ensures { result ≡ by_place.Put (at (param_names locals.now) p.now) (numbered_atom (param_names locals.now) a.now) }
+    ensures { result ≡ by_place.Put (at (param_names locals.now) p.now)
+        (numbered_atom (param_names locals.now) a.now) }
 {
     NumStmt::Put {
         p: locals.place(p.as_slice()),
@@ -467,7 +512,12 @@ fn read(
     eof: &Word,
     eof_args: &Args,
 ) -> Result<NumStmt, NoMemory>
-    ensures { IfOk result (λ stmt. stmt ≡ by_place.Read (at (param_names locals.now) r.now) (at (param_names locals.now) p.now) (at (proc_names procs.now) proc.now) (map (numbered_atom (param_names locals.now)) args.now) (at (proc_names procs.now) eof.now) (map (numbered_atom (param_names locals.now)) eof_args.now)) }
+    ensures { IfOk result
+        (λ stmt. stmt ≡ by_place.Read (at (param_names locals.now) r.now)
+        (at (param_names locals.now) p.now) (at (proc_names procs.now) proc.now)
+        (map (numbered_atom (param_names locals.now)) args.now)
+        (at (proc_names procs.now) eof.now)
+        (map (numbered_atom (param_names locals.now)) eof_args.now)) }
 {
     Ok(NumStmt::Read {
         r: locals.place(r.as_slice()),
@@ -496,7 +546,8 @@ fn close_read(locals: &Locals, p: &Word) -> NumStmt
 }
 
 fn flushed(locals: &Locals, r: &Word, p: &Word) -> NumStmt
-    ensures { result ≡ by_place.Flushed (at (param_names locals.now) r.now) (at (param_names locals.now) p.now) }
+    ensures { result ≡ by_place.Flushed (at (param_names locals.now) r.now)
+        (at (param_names locals.now) p.now) }
 {
     NumStmt::Flushed {
         r: locals.place(r.as_slice()),
@@ -505,7 +556,8 @@ fn flushed(locals: &Locals, r: &Word, p: &Word) -> NumStmt
 }
 
 fn work(locals: &Locals, r: &Word, kind: WorkWord, a: &Atom) -> NumStmt
-    ensures { result ≡ by_place.Work (at (param_names locals.now) r.now) (work_kind kind) (numbered_atom (param_names locals.now) a.now) }
+    ensures { result ≡ by_place.Work (at (param_names locals.now) r.now) (work_kind kind)
+        (numbered_atom (param_names locals.now) a.now) }
 {
     NumStmt::Work {
         r: locals.place(r.as_slice()),
@@ -515,7 +567,8 @@ fn work(locals: &Locals, r: &Word, kind: WorkWord, a: &Atom) -> NumStmt
 }
 
 fn helper(locals: &Locals, h: &Word, x: &Word) -> NumStmt
-    ensures { result ≡ by_place.Helper (at (param_names locals.now) h.now) (at (param_names locals.now) x.now) }
+    ensures { result ≡ by_place.Helper (at (param_names locals.now) h.now)
+        (at (param_names locals.now) x.now) }
 {
     NumStmt::Helper {
         h: locals.place(h.as_slice()),
@@ -524,7 +577,9 @@ fn helper(locals: &Locals, h: &Word, x: &Word) -> NumStmt
 }
 
 fn helper_work(locals: &Locals, r: &Word, h: &Word, kind: WorkWord, a: &Atom) -> NumStmt
-    ensures { result ≡ by_place.HelperWork (at (param_names locals.now) r.now) (at (param_names locals.now) h.now) (work_kind kind) (numbered_atom (param_names locals.now) a.now) }
+    ensures { result ≡ by_place.HelperWork (at (param_names locals.now) r.now)
+        (at (param_names locals.now) h.now) (work_kind kind)
+        (numbered_atom (param_names locals.now) a.now) }
 {
     NumStmt::HelperWork {
         r: locals.place(r.as_slice()),

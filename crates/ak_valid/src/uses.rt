@@ -64,7 +64,12 @@ fn returned(locals: &Locals, a: &Atom) -> Option<FaultKind>
 
 /// A local that a procedure may return.
 fn returned_local(locals: &Locals, name: &Word) -> Option<FaultKind>
-    ensures { result ≡ least (use_faults locals.now (record { name = name.now; wanted = of_kind.Num ∷ of_kind.Def ∷ [] })) }
+    ensures { result ≡ least
+        (use_faults locals.now (record {
+          name = name.now;
+          wanted =
+              of_kind.Num ∷ of_kind.Def ∷ [];
+        })) }
 {
     match locals.kind(name.as_slice()) {
         None => Some(FaultKind::UnknownName),
@@ -75,7 +80,8 @@ fn returned_local(locals: &Locals, name: &Word) -> Option<FaultKind>
 
 /// Two numbers.
 fn numbers(locals: &Locals, a: &Atom, b: &Atom) -> Option<FaultKind>
-    ensures { result ≡ least (flat_map (use_faults locals.now) (number_use a.now ++ number_use b.now)) }
+    ensures { result ≡ least
+        (flat_map (use_faults locals.now) (number_use a.now ++ number_use b.now)) }
 {
     lesser(number(locals, a), number(locals, b))
 }
@@ -89,14 +95,16 @@ fn one(locals: &Locals, name: &Word, wanted: Kind) -> Option<FaultKind>
 
 /// A local and a number.
 fn local_and_number(locals: &Locals, name: &Word, wanted: Kind, a: &Atom) -> Option<FaultKind>
-    ensures { result ≡ least (flat_map (use_faults locals.now) (local_use name.now wanted ∷ number_use a.now)) }
+    ensures { result ≡ least
+        (flat_map (use_faults locals.now) (local_use name.now wanted ∷ number_use a.now)) }
 {
     lesser(local(locals, name, wanted), number(locals, a))
 }
 
 /// A list of deferreds.
 fn deferreds(locals: &Locals, names: &[Word]) -> Option<FaultKind>
-    ensures { result ≡ least (flat_map (use_faults locals.now) (map (λ d. local_use d of_kind.Def) names.now)) }
+    ensures { result ≡ least
+        (flat_map (use_faults locals.now) (map (λ d. local_use d of_kind.Def) names.now)) }
 {
     let mut fault = None;
     for name in names {
@@ -107,7 +115,9 @@ fn deferreds(locals: &Locals, names: &[Word]) -> Option<FaultKind>
 
 /// The deferreds of a `choose`.
 fn choices(locals: &Locals, choices: &[Choice]) -> Option<FaultKind>
-    ensures { result ≡ least (flat_map (use_faults locals.now) (map (λ choice. local_use choice.d of_kind.Def) choices.now)) }
+    ensures { result ≡ least
+        (flat_map (use_faults locals.now)
+        (map (λ choice. local_use choice.d of_kind.Def) choices.now)) }
 {
     let mut fault = None;
     for choice in choices {

@@ -23,7 +23,12 @@ use std::alloc::Global;
 /// grammar. A script is refused exactly where it has a fault, by the first line that has one, in the order of the lines,
 /// and the least kind of that line's faults; line 0 comes before all. The script is spent. Own.
 pub fn validate(alloc: Global, script: Script) -> Result<Program, ValidRefused>
-    ensures ok { IfOk result (λ program. Valid script × (program ≡ record { procs = numbered_script script; main = main_of script; ask = ask_of script })) }
+    ensures ok { IfOk result
+        (λ program. Valid script × (program ≡ record {
+          procs = numbered_script script;
+          main = main_of script;
+          ask = ask_of script;
+        })) }
     ensures err { IfErr result (λ refusal. IsRefusal script refusal) }
 {
     let procs = script.into_procs();
@@ -47,8 +52,10 @@ fn by_name<'a>(alloc: Global, procs: &'a [Proc]) -> Result<Procs<'a>, NoMemory>
 
 /// The place of `main`.
 fn place_of_main(named: &Procs) -> Result<usize, ValidRefused>
-    ensures ok { IfOk result (λ main. (first_fault (line_zero named.now ∷ []) ≡ None) × (main ≡ main_of named.now)) }
-    ensures err { IfErr result (λ refusal. Refuses (first_fault (line_zero named.now ∷ [])) refusal) }
+    ensures ok { IfOk result (λ main. (first_fault (line_zero named.now ∷ []) ≡ None)
+        × (main ≡ main_of named.now)) }
+    ensures err { IfErr result
+        (λ refusal. Refuses (first_fault (line_zero named.now ∷ [])) refusal) }
 {
     match named.named(b"main".as_slice()) {
         None => Err(ValidRefused::At {
@@ -65,8 +72,11 @@ fn number_procs(
     named: &Procs,
     procs: &[Proc],
 ) -> Result<Items<NumProc>, ValidRefused>
-    ensures ok { IfOk result (λ numbered. (first_fault (procs_lines named.now [] procs.now) ≡ None) × (numbered ≡ map (numbered_proc (proc_names named.now)) procs.now)) }
-    ensures err { IfErr result (λ refusal. Refuses (first_fault (procs_lines named.now [] procs.now)) refusal) }
+    ensures ok { IfOk result
+        (λ numbered. (first_fault (procs_lines named.now [] procs.now) ≡ None)
+        × (numbered ≡ map (numbered_proc (proc_names named.now)) procs.now)) }
+    ensures err { IfErr result
+        (λ refusal. Refuses (first_fault (procs_lines named.now [] procs.now)) refusal) }
 {
     let mut seen = Names::with_capacity(alloc, procs.len())?;
     let mut numbered = Items::from_vec(Vec::with_capacity(alloc, procs.len())?);

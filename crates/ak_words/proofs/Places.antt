@@ -32,7 +32,9 @@ list_first (y ∷ xs) x h e = ap (λ v. v ∷ xs) (sym e) ∙ ap (λ vs. x ∷ v
 pub list_two : {A : Type 0} (xs : List A) (x y : A) → 2 ≤ length xs → x ≡ get_or xs 0 x → y ≡ get_or xs 1 y → xs ≡ x ∷ y ∷ take (length xs - 2) (drop 2 xs)
 list_two [] x y h e d = absurd (omega (arith, h))
 list_two (v ∷ []) x y h e d = absurd (omega (arith, h))
-list_two (v ∷ w ∷ xs) x y h e d = ap (λ z. z ∷ w ∷ xs) (sym e) ∙ ap (λ z. x ∷ z ∷ xs) (sym d) ∙ ap (λ zs. x ∷ y ∷ zs) (sym (take_all xs (length (v ∷ w ∷ xs) - 2) (omega arith)))
+list_two (v ∷ w ∷ xs) x y h e d =
+    ap (λ z. z ∷ w ∷ xs) (sym e) ∙ ap (λ z. x ∷ z ∷ xs) (sym d) ∙ ap (λ zs. x ∷ y ∷ zs)
+    (sym (take_all xs (length (v ∷ w ∷ xs) - 2) (omega arith)))
 
 -- ---- settings
 one_name : (s t : Setting) → name_of s ≡ name_of t → s ≡ t
@@ -51,11 +53,13 @@ one_is_value Threads = ((omega arith, refl), refl, omega arith, omega arith)
 one_is_value Limit = ((omega arith, refl), refl, omega arith, omega arith)
 one_is_value Jobs = ((omega arith, refl), refl, omega arith, omega arith)
 
-bad_first : (given : Given) (name : List ℕ) (more : List (List ℕ)) (config : Config) → ((s : Setting) → name ≡ name_of s → given_at s given ≡ None → ⊥) → Continues given (name ∷ more) config → ⊥
+bad_first : (given : Given) (name : List ℕ) (more : List (List ℕ)) (config : Config)
+    → ((s : Setting) → name ≡ name_of s → given_at s given ≡ None → ⊥) → Continues given (name ∷ more) config → ⊥
 bad_first given name [] config bad h = h
 bad_first given name (value ∷ more) config bad h = bad h.0 h.2.named h.2.free
 
-pub fault_bad_name : (given : Given) (name : List ℕ) (more : List (List ℕ)) → ((s : Setting) → name ≡ name_of s → given_at s given ≡ None → ⊥) → IsSettingsFault given (name ∷ more) 0
+pub fault_bad_name : (given : Given) (name : List ℕ) (more : List (List ℕ))
+    → ((s : Setting) → name ≡ name_of s → given_at s given ≡ None → ⊥) → IsSettingsFault given (name ∷ more) 0
 fault_bad_name given name more bad = record {
   no_settings = λ config h. bad_first given name more config bad h;
   within = omega arith;
@@ -71,11 +75,13 @@ fault_no_value given name s named free = record {
   wrong = λ lt b. absurd (omega (arith, lt));
 }
 
-bad_second : (given : Given) (name value : List ℕ) (more : List (List ℕ)) (config : Config) (s : Setting) → name ≡ name_of s → ((n : ℕ) → IsValue s value n → ⊥) → Continues given (name ∷ value ∷ more) config → ⊥
+bad_second : (given : Given) (name value : List ℕ) (more : List (List ℕ)) (config : Config) (s : Setting) → name ≡ name_of s
+    → ((n : ℕ) → IsValue s value n → ⊥) → Continues given (name ∷ value ∷ more) config → ⊥
 bad_second given name value more config s named bad h =
     bad h.1 (subst (λ t. IsValue t value h.1) (one_name h.0 s (sym h.2.named ∙ named)) h.2.number)
 
-pub fault_bad_value : (given : Given) (name value : List ℕ) (more : List (List ℕ)) (s : Setting) → name ≡ name_of s → given_at s given ≡ None → ((n : ℕ) → IsValue s value n → ⊥) → IsSettingsFault given (name ∷ value ∷ more) 1
+pub fault_bad_value : (given : Given) (name value : List ℕ) (more : List (List ℕ)) (s : Setting) → name ≡ name_of s
+    → given_at s given ≡ None → ((n : ℕ) → IsValue s value n → ⊥) → IsSettingsFault given (name ∷ value ∷ more) 1
 fault_bad_value given name value more s named free bad = record {
   no_settings = λ config h. bad_second given name value more config s named bad h;
   within = omega arith;
@@ -84,7 +90,8 @@ fault_bad_value given name value more s named free bad = record {
 }
 
 -- what follows a setting goes on behind it
-pub goes_behind : (given : Given) (name value : List ℕ) (rest : List (List ℕ)) (config : Config) (s : Setting) (n : ℕ) → IsSetting given name value s n → Continues given (name ∷ value ∷ rest) config → Continues (with_setting s n given) rest config
+pub goes_behind : (given : Given) (name value : List ℕ) (rest : List (List ℕ)) (config : Config) (s : Setting) (n : ℕ)
+    → IsSetting given name value s n → Continues given (name ∷ value ∷ rest) config → Continues (with_setting s n given) rest config
 goes_behind given name value rest config s n is h =
     let same : h.0 ≡ s = one_name h.0 s (sym h.2.named ∙ is.named)
     in let number : h.1 ≡ n = sym h.2.number.1 ∙ is.number.1
@@ -93,14 +100,17 @@ goes_behind given name value rest config s n is h =
 take_two : (place : ℕ) (x y : List ℕ) (xs : List (List ℕ)) → take (place + 2) (x ∷ y ∷ xs) ≡ x ∷ y ∷ take place xs
 take_two place x y xs = let e : place + 2 ≡ suc (suc place) = omega arith in ap (λ n. take n (x ∷ y ∷ xs)) e
 
-pub fault_later : (given : Given) (name value : List ℕ) (rest : List (List ℕ)) (s : Setting) (n place : ℕ) → IsSetting given name value s n → IsSettingsFault (with_setting s n given) rest place → IsSettingsFault given (name ∷ value ∷ rest) (place + 2)
+pub fault_later : (given : Given) (name value : List ℕ) (rest : List (List ℕ)) (s : Setting) (n place : ℕ)
+    → IsSetting given name value s n → IsSettingsFault (with_setting s n given) rest place
+    → IsSettingsFault given (name ∷ value ∷ rest) (place + 2)
 fault_later given name value rest s n place is f = record {
   no_settings = λ config h. f.no_settings config (goes_behind given name value rest config s n is h);
   within = omega (arith, f.within);
   before = subst (BeginsSettings given) (sym (take_two place name value rest)) (f.before.0, f.before.1, (s, n, is, f.before.2));
   wrong = λ lt b.
       let e : (place + 2) + 1 ≡ (place + 1) + 2 = omega arith
-      in let c : BeginsSettings given (name ∷ value ∷ take (place + 1) rest) = subst (BeginsSettings given) (ap (λ k. take k (name ∷ value ∷ rest)) e ∙ take_two (place + 1) name value rest) b
+      in let c : BeginsSettings given (name ∷ value ∷ take (place + 1) rest) =
+      subst (BeginsSettings given) (ap (λ k. take k (name ∷ value ∷ rest)) e ∙ take_two (place + 1) name value rest) b
       in f.wrong (omega (arith, lt)) (c.0, c.1, goes_behind given name value (take (place + 1) rest ++ c.0) c.1 s n is c.2);
 }
 
@@ -138,7 +148,8 @@ check_fault x more = record {
   wrong = λ lt b. check_alone x b.0 b.1.0 b.1.1;
 }
 
-other_means : (first : List ℕ) (more : List (List ℕ)) (command : Command) → (first ≡ codes "run" → ⊥) → (first ≡ codes "check" → ⊥) → Means (first ∷ more) command → ⊥
+other_means : (first : List ℕ) (more : List (List ℕ)) (command : Command) → (first ≡ codes "run" → ⊥) → (first ≡ codes "check" → ⊥)
+    → Means (first ∷ more) command → ⊥
 other_means first more (Run config) r k h = r (cc (h.1))
 other_means first more Check r k h = k (cc (h))
 

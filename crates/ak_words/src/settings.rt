@@ -23,7 +23,8 @@ pub enum Setting {
 impl Setting {
     /// The setting of a word: `None` exactly where the word is of none.
     fn named(word: &Word) -> Option<Setting>
-        ensures { MatchOption result ((setting : Setting) → word.now ≡ name_of setting → ⊥) (λ setting. word.now ≡ name_of setting) }
+        ensures { MatchOption result ((setting : Setting) → word.now ≡ name_of setting → ⊥)
+            (λ setting. word.now ≡ name_of setting) }
     {
         match word.as_slice() {
             b"--threads" => Some(Setting::Threads),
@@ -46,7 +47,8 @@ impl Setting {
 
     /// The number of the setting that a word is: `None` exactly where it is none.
     fn number(self, word: &Word) -> Option<u32>
-        ensures { MatchOption result ((n : ℕ) → IsValue self word.now n → ⊥) (λ n. IsValue self word.now n) }
+        ensures { MatchOption result ((n : ℕ) → IsValue self word.now n → ⊥)
+            (λ n. IsValue self word.now n) }
     {
         if begins_with_minus(word) {
             return None;
@@ -166,7 +168,9 @@ pub fn settings(given: Given, words: &[Word]) -> Result<Config, u32>
 
 /// The setting of a word, where it was not given yet.
 fn free_setting(given: &Given, name: &Word) -> Option<Setting>
-    ensures { MatchOption result ((setting : Setting) → name.now ≡ name_of setting → given_at setting given.now ≡ None → ⊥) (λ setting. (name.now ≡ name_of setting) × (given_at setting given.now ≡ None)) }
+    ensures { MatchOption result ((setting : Setting) → name.now ≡ name_of setting
+        → given_at setting given.now ≡ None → ⊥) (λ setting. (name.now ≡ name_of setting)
+        × (given_at setting given.now ≡ None)) }
 {
     let setting = Setting::named(name)?;
     if given.is_free(setting) {

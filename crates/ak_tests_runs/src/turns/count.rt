@@ -37,8 +37,11 @@ impl Guarded for Count {
 fn add_at<R: Wait>(rt: &R, turn: &Turn<Count>, pass: &mut Pass<Count>, units: u64) -> bool
     requires turn { IsIdleOf turn.now pass.old }
     requires room { units + 1 < 2 ^ 63 }
-    ensures turn { IsIdleOf turn.now pass.new × (pass.new.number ≡ pass.old.number) × (pass.new.spare ≡ pass.old.spare) }
-    ensures added { IsTrue result → (was : List (ℕ × _)) × (length was ≡ units) × Extends pass.old was × IsLog (λ n e. ⊤) turn.now.numbers was × (pass.new ≡ left pass.old was (record {} ∷ [])) }
+    ensures turn { IsIdleOf turn.now pass.new × (pass.new.number ≡ pass.old.number)
+        × (pass.new.spare ≡ pass.old.spare) }
+    ensures added { IsTrue result → (was : List (ℕ × _)) × (length was ≡ units)
+        × Extends pass.old was × IsLog (λ n e. ⊤) turn.now.numbers was
+        × (pass.new ≡ left pass.old was (record {} ∷ [])) }
 {
     let mut held = turn.enter(rt, pass);
     if held.value().units == units {
@@ -54,7 +57,8 @@ fn add_at<R: Wait>(rt: &R, turn: &Turn<Count>, pass: &mut Pass<Count>, units: u6
 // Enters and leaves, and changes nothing.
 fn visit<R: Wait>(rt: &R, turn: &Turn<Count>, pass: &mut Pass<Count>)
     requires { IsIdleOf turn.now pass.old }
-    ensures turn { IsIdleOf turn.now pass.new × (pass.new.number ≡ pass.old.number) × (pass.new.spare ≡ pass.old.spare) }
+    ensures turn { IsIdleOf turn.now pass.new × (pass.new.number ≡ pass.old.number)
+        × (pass.new.spare ≡ pass.old.spare) }
     ensures mine { pass.new.mine ≡ pass.old.mine }
 {
     let held = turn.enter(rt, pass);
@@ -64,12 +68,16 @@ fn visit<R: Wait>(rt: &R, turn: &Turn<Count>, pass: &mut Pass<Count>)
 // Pass 0 adds a unit. Pass 1 comes and goes, and adds one. Where each found what it expected, contracts show the entries
 // that both have seen.
 fn play<R: Wait>(rt: &R, turn: &Turn<Count>, zero: &mut Pass<Count>, one: &mut Pass<Count>) -> bool
-    requires turn { IsIdleOf turn.now zero.old × IsIdleOf turn.now one.old × (turn.now.numbers ≡ 0 ∷ 1 ∷ []) }
+    requires turn { IsIdleOf turn.now zero.old × IsIdleOf turn.now one.old
+        × (turn.now.numbers ≡ 0 ∷ 1 ∷ []) }
     requires zero { (zero.old.number ≡ 0) × (zero.old.mine ≡ []) }
     requires one { (one.old.number ≡ 1) × (one.old.mine ≡ []) }
-    ensures turn { IsIdleOf turn.now zero.new × (zero.new.spare ≡ zero.old.spare) × IsIdleOf turn.now one.new × (one.new.spare ≡ one.old.spare) }
-    ensures seen { IsTrue result → (zero.new.seen ≡ (0, record {}) ∷ []) × (one.new.seen ≡ (0, record {}) ∷ (1, record {}) ∷ []) }
-    ensures mine { IsTrue result → (zero.new.mine ≡ record {} ∷ []) × (one.new.mine ≡ record {} ∷ []) }
+    ensures turn { IsIdleOf turn.now zero.new × (zero.new.spare ≡ zero.old.spare)
+        × IsIdleOf turn.now one.new × (one.new.spare ≡ one.old.spare) }
+    ensures seen { IsTrue result → (zero.new.seen ≡ (0, record {}) ∷ [])
+        × (one.new.seen ≡ (0, record {}) ∷ (1, record {}) ∷ []) }
+    ensures mine { IsTrue result → (zero.new.mine ≡ record {} ∷ [])
+        × (one.new.mine ≡ record {} ∷ []) }
 {
     let first = add_at(rt, turn, zero, 0);
     if !first {

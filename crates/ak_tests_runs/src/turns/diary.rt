@@ -46,8 +46,10 @@ impl Guarded for Diary {
 fn write<R: Wait>(rt: &R, turn: &Turn<Diary>, pass: &mut Pass<Diary>, line: Line) -> bool
     requires turn { IsIdleOf turn.now pass.old }
     requires line { (line.by ≡ pass.old.number) × (IsTrue line.heading → pass.old.number ≡ 0) }
-    ensures turn { IsIdleOf turn.now pass.new × (pass.new.number ≡ pass.old.number) × (pass.new.spare ≡ pass.old.spare) }
-    ensures mine { MatchBool result (pass.new.mine ≡ pass.old.mine ++ line ∷ []) (pass.new.mine ≡ pass.old.mine) }
+    ensures turn { IsIdleOf turn.now pass.new × (pass.new.number ≡ pass.old.number)
+        × (pass.new.spare ≡ pass.old.spare) }
+    ensures mine { MatchBool result (pass.new.mine ≡ pass.old.mine ++ line ∷ [])
+        (pass.new.mine ≡ pass.old.mine) }
 {
     let mut held = turn.enter(rt, pass);
     let written = held.value_mut().lines.push(line).is_ok();
@@ -133,11 +135,13 @@ fn write_four<R: Threads + Wait + Sync>(
     let ((zero, one), (two, three)) = thread::join(
         rt,
         move || -> (Pass<Diary>, Pass<Diary>)
-            requires { IsIdleOf shared.now zero × (zero.number ≡ 0) × IsIdleOf shared.now one × (one.number ≡ 1) }
+            requires { IsIdleOf shared.now zero × (zero.number ≡ 0) × IsIdleOf shared.now one
+                × (one.number ≡ 1) }
             ensures { IsIdleOf shared.entry.now result.0 × IsIdleOf shared.entry.now result.1 }
         { write_both(rt, shared, (zero, 0), (one, 1), lines) },
         move || -> (Pass<Diary>, Pass<Diary>)
-            requires { IsIdleOf shared.now two × (two.number ≡ 2) × IsIdleOf shared.now three × (three.number ≡ 3) }
+            requires { IsIdleOf shared.now two × (two.number ≡ 2) × IsIdleOf shared.now three
+                × (three.number ≡ 3) }
             ensures { IsIdleOf shared.entry.now result.0 × IsIdleOf shared.entry.now result.1 }
         { write_both(rt, shared, (two, 2), (three, 3), lines) },
     );

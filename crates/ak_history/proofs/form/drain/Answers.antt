@@ -22,7 +22,8 @@ returns-in_default-2 c =
 pub returns-then-eq : goal.returns-then-eq
 unfolding drain_of
 returns-then-eq c =
-    with_requests c.loop-word.ids c.loop-word.row c.word.new.self c.in-Some.word.now (brought_of c.args.row.now) c.in-Some-2.requests c.loop-word.invariant c.in-Some.ensures
+    with_requests c.loop-word.ids c.loop-word.row c.word.new.self c.in-Some.word.now
+    (brought_of c.args.row.now) c.in-Some-2.requests c.loop-word.invariant c.in-Some.ensures
     (word_is c.in-Some.word.now c.as_slice.result.now c.eq.result true c.as_slice.ensures c.eq.ensures c.if-eq.true)
     (sym c.in-Some-2.is ∙ c.in_ok-requests.ensures)
 
@@ -35,7 +36,8 @@ returns-in_default-thing c =
 
 pub loop-word-preserved : goal.loop-word-preserved
 loop-word-preserved c =
-    one_work_more c.loop-word.ids c.push.new.self c.loop-word.row c.word.new.self c.in-Some.word.now c.in-Some-thing.id (brought_of c.args.row.now) c.loop-word.invariant c.in-Some.ensures
+    one_work_more c.loop-word.ids c.push.new.self c.loop-word.row c.word.new.self c.in-Some.word.now c.in-Some-thing.id
+    (brought_of c.args.row.now) c.loop-word.invariant c.in-Some.ensures
     (word_is c.in-Some.word.now c.as_slice.result.now c.eq.result false c.as_slice.ensures c.eq.ensures c.if-eq.false)
     (sym c.in-Some-thing.ensures)
     (c.in_ok-push.ensures.ok ∙ ap (λ (id : ℕ). c.loop-word.ids ++ id ∷ []) c.new.ensures)

@@ -10,11 +10,13 @@ loop-word-init c = rw (c.make-requests.ensures) (no_front (longs_of c.args.row.n
 pub returns-in_default-long : goal.returns-in_default-long
 unfolding requests_of
 returns-in_default-long c =
-    no_request c.loop-word.requests c.loop-word.row c.word.new.self c.in-Some.word.now (longs_of c.args.row.now) c.loop-word.invariant c.in-Some.ensures (sym c.long.ensures ∙ c.in_default-long.is)
+    no_request c.loop-word.requests c.loop-word.row c.word.new.self c.in-Some.word.now
+    (longs_of c.args.row.now) c.loop-word.invariant c.in-Some.ensures (sym c.long.ensures ∙ c.in_default-long.is)
 
 pub loop-word-preserved : goal.loop-word-preserved
 loop-word-preserved c =
-    one_request_more c.loop-word.requests c.push.new.self c.loop-word.row c.word.new.self c.in-Some.word.now c.in-Some-long.no (longs_of c.args.row.now) c.loop-word.invariant c.in-Some.ensures (sym c.in-Some-long.ensures)
+    one_request_more c.loop-word.requests c.push.new.self c.loop-word.row c.word.new.self c.in-Some.word.now c.in-Some-long.no
+    (longs_of c.args.row.now) c.loop-word.invariant c.in-Some.ensures (sym c.in-Some-long.ensures)
     (c.in_ok-push.ensures.ok ∙ ap (λ (q : ℕ). c.loop-word.requests ++ q ∷ []) c.new.ensures)
 
 pub returns-then-len-eq0 : goal.returns-then-len-eq0

@@ -43,7 +43,8 @@ returns-in_err-put-2 g c = record {
   passes = search rules;
   begins = on_err c.from_residual-in_err-put-2.result
       (toward-end_fault _ _ _ _ _ (10 ∷ []) _
-      (drain-last _ _ _ _ _ _ _ _ c.args.ids.now c.args.requests.now c.in_ok-put.ensures.passes c.in_ok-put_ids.ensures.passes c.in_ok-put_requests.ensures.passes)
+      (drain-last _ _ _ _ _ _ _ _ c.args.ids.now c.args.requests.now c.in_ok-put.ensures.passes c.in_ok-put_ids.ensures.passes
+      c.in_ok-put_requests.ensures.passes)
       c.in_err-put-2.ensures.begins);
   lost = search rules;
   never_falls = search rules;
@@ -53,7 +54,8 @@ returns-in_err-put-2 g c = record {
 pub returns : goal.returns
 returns g c = record {
   passes = toward-end _ _ _ _ _ _ (10 ∷ []) _
-      (drain-last _ _ _ _ _ _ _ _ c.args.ids.now c.args.requests.now c.in_ok-put.ensures.passes c.in_ok-put_ids.ensures.passes c.in_ok-put_requests.ensures.passes)
+      (drain-last _ _ _ _ _ _ _ _ c.args.ids.now c.args.requests.now c.in_ok-put.ensures.passes c.in_ok-put_ids.ensures.passes
+      c.in_ok-put_requests.ensures.passes)
       c.in_ok-put-2.ensures.passes;
   begins = search rules;
   lost = search rules;

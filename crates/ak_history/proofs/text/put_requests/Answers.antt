@@ -17,7 +17,8 @@ pub returns-in_err-put_request_ids : goal.returns-in_err-put_request_ids
 returns-in_err-put_request_ids g c = record {
   passes = search rules;
   begins = on_err c.from_residual-in_err-put_request_ids.result
-      (requests-fault_2 _ _ _ _ _ c.args.requests.now (sym c.is_empty.ensures ∙ c.if-is_empty.false) c.in_ok-put.ensures.passes c.in_err-put_request_ids.ensures.begins);
+      (requests-fault_2 _ _ _ _ _ c.args.requests.now (sym c.is_empty.ensures ∙ c.if-is_empty.false) c.in_ok-put.ensures.passes
+      c.in_err-put_request_ids.ensures.begins);
   lost = search rules;
   never_falls = search rules;
   cause = search rules;
@@ -25,7 +26,8 @@ returns-in_err-put_request_ids g c = record {
 
 pub returns : goal.returns
 returns g c = record {
-  passes = requests-pass _ _ _ _ _ _ c.args.requests.now (sym c.is_empty.ensures ∙ c.if-is_empty.false) c.in_ok-put.ensures.passes c.in_ok-put_request_ids.ensures.passes;
+  passes = requests-pass _ _ _ _ _ _ c.args.requests.now (sym c.is_empty.ensures ∙ c.if-is_empty.false) c.in_ok-put.ensures.passes
+      c.in_ok-put_request_ids.ensures.passes;
   begins = search rules;
   lost = search rules;
   never_falls = search rules;

@@ -9,7 +9,8 @@ use Rattle.ak_syntax.proofs.parse.parse_lines.Goals as goal
 
 pub loop-line-init : goal.loop-line-init
 loop-line-init c =
-    let lines : c.into_iter-line-iterator.result ≡ text_lines c.args.bytes.now = c.into_iter-line-iterator.ensures.into_iter_gives ∙ c.lines-line-items.ensures in
+    let lines : c.into_iter-line-iterator.result ≡ text_lines c.args.bytes.now =
+    c.into_iter-line-iterator.ensures.into_iter_gives ∙ c.lines-line-items.ensures in
     record {
       same = rw (c.new-reader.ensures, lines) refl;
       numbered = subst (λ (left : List TextLine). AreNumbered 0 left c.args.bytes.now) (sym lines) (numbered_first c.args.bytes.now);
@@ -17,27 +18,42 @@ loop-line-init c =
 
 pub returns-in-Err : goal.returns-in-Err
 returns-in-Err c =
-    let refusal : c.refused.result ≡ refused_of c.in-Some.line.number c.in-Err.fault = c.refused.ensures ∙ ap (λ (n : ℕ). refused_of n c.in-Err.fault) c.number-last.ensures in
+    let refusal : c.refused.result ≡ refused_of c.in-Some.line.number c.in-Err.fault =
+    c.refused.ensures ∙ ap (λ (n : ℕ). refused_of n c.in-Err.fault) c.number-last.ensures in
     subst (λ (r : ParseRefused). Tells (Err r) (scanned no_lines 0 (text_lines c.args.bytes.now))) (sym refusal)
-    (refused_tells c.loop-line.reader c.loop-line.last c.loop-line.line-iterator c.next.new.self c.in-Some.line c.in-Err.fault _ c.loop-line.invariant.same c.in-Some.ensures.steps c.in-Err.ensures)
+    (refused_tells c.loop-line.reader c.loop-line.last c.loop-line.line-iterator c.next.new.self c.in-Some.line c.in-Err.fault _
+    c.loop-line.invariant.same c.in-Some.ensures.steps c.in-Err.ensures)
 
 pub loop-line-preserved : goal.loop-line-preserved
 loop-line-preserved c = record {
-  same = rw (c.number-last.ensures) (next_scanned c.loop-line.reader c.take.new.self c.loop-line.last c.loop-line.line-iterator c.next.new.self c.in-Some.line _ c.loop-line.invariant.same c.in-Some.ensures.steps c.in-Ok.ensures);
-  numbered = rw (c.number-last.ensures) ((numbered_next c.loop-line.last c.loop-line.line-iterator c.next.new.self c.in-Some.line c.args.bytes.now c.loop-line.invariant.numbered c.in-Some.ensures.steps).0);
+  same = rw (c.number-last.ensures)
+      (next_scanned c.loop-line.reader c.take.new.self c.loop-line.last c.loop-line.line-iterator c.next.new.self c.in-Some.line _
+      c.loop-line.invariant.same c.in-Some.ensures.steps c.in-Ok.ensures);
+  numbered = rw (c.number-last.ensures)
+      ((numbered_next c.loop-line.last c.loop-line.line-iterator c.next.new.self c.in-Some.line c.args.bytes.now
+      c.loop-line.invariant.numbered c.in-Some.ensures.steps).0);
 }
 
 pub overflow_add-last : goal.overflow_add-last
 overflow_add-last c = let few = c.loop-line.invariant.numbered.2 in omega arith
 
 pub returns-then-is_open : goal.returns-then-is_open
-returns-then-is_open c = rw (c.at.ensures) (BadLine, refl, open_tells c.loop-line.reader c.loop-line.last c.loop-line.line-iterator _ c.loop-line.invariant.same c.in-None.ensures.steps.0 (sym c.if-is_open.ensures))
+returns-then-is_open c =
+    rw (c.at.ensures) (
+      BadLine,
+      refl,
+      open_tells c.loop-line.reader c.loop-line.last c.loop-line.line-iterator _ c.loop-line.invariant.same c.in-None.ensures.steps.0
+          (sym c.if-is_open.ensures),
+    )
 
 pub into_script-requires : goal.into_script-requires
 into_script-requires c =
     let small : length c.args.bytes.now ≤ 1048576 = omega arith in
     found_formed c.args.bytes.now c.loop-line.reader.procs small
-    (closed_tells c.loop-line.reader c.loop-line.last c.loop-line.line-iterator (scanned no_lines 0 (text_lines c.args.bytes.now)) c.loop-line.invariant.same c.in-None.ensures.steps.0 (sym c.if-is_open.ensures))
+    (closed_tells c.loop-line.reader c.loop-line.last c.loop-line.line-iterator
+    (scanned no_lines 0 (text_lines c.args.bytes.now)) c.loop-line.invariant.same c.in-None.ensures.steps.0 (sym c.if-is_open.ensures))
 
 pub returns : goal.returns
-returns c = rw (c.into_script.ensures) (closed_tells c.loop-line.reader c.loop-line.last c.loop-line.line-iterator _ c.loop-line.invariant.same c.in-None.ensures.steps.0 (sym c.if-is_open.ensures))
+returns c = rw (c.into_script.ensures)
+    (closed_tells c.loop-line.reader c.loop-line.last c.loop-line.line-iterator _ c.loop-line.invariant.same c.in-None.ensures.steps.0
+    (sym c.if-is_open.ensures))

@@ -9,8 +9,10 @@ returns-in-Ok-write_valid-clause-reports g c =
 
 pub returns-in-Err-write_valid-clause-reports : goal.returns-in-Err-write_valid-clause-reports
 returns-in-Err-write_valid-clause-reports g c =
-    check_reports (g.S.Source.left c.args.source.now) WriteFault c.without_run-in-Err-write_valid.result c.without_run-in-Err-write_valid.ensures refl tt c.in-Ok.ensures.valid c.in-Ok.ensures.refuses
+    check_reports (g.S.Source.left c.args.source.now) WriteFault c.without_run-in-Err-write_valid.result
+    c.without_run-in-Err-write_valid.ensures refl tt c.in-Ok.ensures.valid c.in-Ok.ensures.refuses
 
 pub returns-in-Err-clause-reports : goal.returns-in-Err-clause-reports
 returns-in-Err-clause-reports g c =
-    stop_reports_check (g.S.Source.left c.args.source.now) _ _ c.in-Err.stop c.status.result c.without_run-in-Err.result c.without_run-in-Err.ensures c.status.ensures c.in-Err.ensures.stop c.in-Err.ensures.refuses c.in-Err.ensures.accepts
+    stop_reports_check (g.S.Source.left c.args.source.now) _ _ c.in-Err.stop c.status.result c.without_run-in-Err.result
+    c.without_run-in-Err.ensures c.status.ensures c.in-Err.ensures.stop c.in-Err.ensures.refuses c.in-Err.ensures.accepts

@@ -6,5 +6,6 @@ use Rattle.ak_top.proofs.running.check_source.Goals as goal
 
 pub returns-in-Ok-clause-refuses : goal.returns-in-Ok-clause-refuses
 returns-in-Ok-clause-refuses g c =
-    let read = subst (WasRead (g.S.Source.left c.args.source.now)) (sym c.bytes.ensures) (was_read (g.S.Source.left c.args.source.now) c.in-Ok.text c.in-Ok.ensures.read)
+    let read = subst (WasRead (g.S.Source.left c.args.source.now)) (sym c.bytes.ensures)
+    (was_read (g.S.Source.left c.args.source.now) c.in-Ok.text c.in-Ok.ensures.read)
     in source_refuses Check (g.S.Source.left c.args.source.now) c.bytes.result.now c.check_bytes.result read c.check_bytes.ensures.refuses

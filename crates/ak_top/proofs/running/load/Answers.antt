@@ -7,7 +7,8 @@ returns-in-Ok-validate-clause-refuses c =
 
 pub returns-in-Err-validate-clause-refuses : goal.returns-in-Err-validate-clause-refuses
 returns-in-Err-validate-clause-refuses c = λ line kind f.
-    rw c.from.ensures (valid_refuses c.args.bytes.now c.in-Ok.script c.in-Err-validate.refused c.in-Ok.ensures.script c.in-Ok.ensures.fault c.in-Err-validate.ensures.err line kind f)
+    rw c.from.ensures (valid_refuses c.args.bytes.now c.in-Ok.script c.in-Err-validate.refused c.in-Ok.ensures.script
+    c.in-Ok.ensures.fault c.in-Err-validate.ensures.err line kind f)
 
 pub returns-in-Err-validate-clause-accepts : goal.returns-in-Err-validate-clause-accepts
 returns-in-Err-validate-clause-accepts c = λ s is.

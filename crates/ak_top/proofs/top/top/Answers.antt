@@ -24,7 +24,8 @@ run_command-requires-clause-hands g c κs within =
 pub returns-in-Ok-Run-clause-reports : goal.returns-in-Ok-Run-clause-reports
 returns-in-Ok-Run-clause-reports g c = λ command means.
     subst (λ d. Reports d (g.S.Source.left c.args.source.now) c.run_command.result.0)
-    (one_command c.args.words.now (Run c.in-Ok-Run.config) command (rw c.in-Ok-Run.field-0-is at c.in-Ok-Run.ensures.command) means) c.run_command.ensures.reports
+    (one_command c.args.words.now (Run c.in-Ok-Run.config) command (rw c.in-Ok-Run.field-0-is at c.in-Ok-Run.ensures.command) means)
+    c.run_command.ensures.reports
 
 pub returns-in-Ok-Run-clause-hands : goal.returns-in-Ok-Run-clause-hands
 returns-in-Ok-Run-clause-hands g c = λ command means.

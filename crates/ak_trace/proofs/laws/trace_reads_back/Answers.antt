@@ -6,4 +6,5 @@ use Rattle.ak_trace.proofs.Readings.{trace_reads_back}
 use Rattle.ak_trace.proofs.laws.trace_reads_back.Goals as goal
 
 pub returns : goal.returns
-returns c = subst (λ (entries : List Entry). TraceReads (trace_text entries) entries) c.as_slice.ensures (trace_reads_back c.as_slice.result.now c.all_in_range.ensures)
+returns c = subst (λ (entries : List Entry). TraceReads (trace_text entries) entries) c.as_slice.ensures
+    (trace_reads_back c.as_slice.result.now c.all_in_range.ensures)

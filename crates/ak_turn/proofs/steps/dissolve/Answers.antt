@@ -8,4 +8,6 @@ returns g c = let k = ends _ _ _ _ _ _ _ _ c.close_with-closed.ensures.values.2 
     subst (IsAll g.G.Guarded.log g.G.Guarded.may g.G.Guarded.fits c.args.desk.shared.key.items c.args.seat.me.0.passes) (same_value _ _ _ k.1 c.in-Some.is) k.2
 
 pub unreachable-requires : goal.unreachable-requires
-unreachable-requires g c = let k = ends _ _ _ _ _ _ _ _ c.close_with-closed.ensures.values.2 c.requires.all.0 c.requires.all.1.1 _ c.take-value.ensures.value in no_value _ _ k.1 c.in-None.is
+unreachable-requires g c = let k =
+    ends _ _ _ _ _ _ _ _ c.close_with-closed.ensures.values.2 c.requires.all.0 c.requires.all.1.1 _ c.take-value.ensures.value in
+    no_value _ _ k.1 c.in-None.is

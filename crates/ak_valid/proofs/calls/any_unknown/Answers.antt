@@ -5,7 +5,8 @@ use Rattle.ak_valid.proofs.LeastKinds.{least_next}
 use Rattle.ak_valid.proofs.calls.any_unknown.Goals as goal
 
 pub loop-a-preserved : goal.loop-a-preserved
-loop-a-preserved c = least_next (unknown_faults c.args.locals.now) c.args.args.now c.loop-a.a-index c.a-item.result c.loop-a.fault _ c.unknown.result (omega arith) c.a-item.is c.loop-a.invariant c.unknown.ensures c.lesser-fault.ensures
+loop-a-preserved c = least_next (unknown_faults c.args.locals.now) c.args.args.now c.loop-a.a-index c.a-item.result c.loop-a.fault _
+    c.unknown.result (omega arith) c.a-item.is c.loop-a.invariant c.unknown.ensures c.lesser-fault.ensures
 
 pub returns : goal.returns
 returns c =

@@ -5,4 +5,6 @@ use Rattle.ak_valid.specs.Faults.{least, callee_faults}
 use Rattle.ak_valid.proofs.calls.choices.Given as goal
 
 abbrev pub invariant-loop-choice : goal.invariant-loop-choice
-invariant-loop-choice l = l.fault ≡ least (flat_map (λ (choice : Choice). callee_faults l.procs l.locals (record { name = choice.proc; front = 1; args = l.args })) (take l.choice-index l.choices))
+invariant-loop-choice l = l.fault
+    ≡ least (flat_map (λ (choice : Choice). callee_faults l.procs l.locals (record { name = choice.proc; front = 1; args = l.args }))
+    (take l.choice-index l.choices))

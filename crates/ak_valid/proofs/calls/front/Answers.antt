@@ -5,7 +5,9 @@ use Rattle.ak_valid.proofs.LeastKinds.{least_next}
 use Rattle.ak_valid.proofs.calls.front.Goals as goal
 
 pub loop-param-preserved : goal.loop-param-preserved
-loop-param-preserved c = least_next (front_faults) c.args.params.now c.loop-param.param-index c.param-item.result c.loop-param.fault _ c.kind.result (omega arith) c.param-item.is c.loop-param.invariant c.kind.ensures c.lesser-fault.ensures
+loop-param-preserved c =
+    least_next (front_faults) c.args.params.now c.loop-param.param-index c.param-item.result c.loop-param.fault _ c.kind.result
+    (omega arith) c.param-item.is c.loop-param.invariant c.kind.ensures c.lesser-fault.ensures
 
 pub returns : goal.returns
 returns c =

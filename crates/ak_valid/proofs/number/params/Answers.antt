@@ -5,7 +5,9 @@ use Rattle.ak_valid.proofs.Mapping.{mapped_next}
 use Rattle.ak_valid.proofs.number.params.Goals as goal
 
 pub loop-item-preserved : goal.loop-item-preserved
-loop-item-preserved c = mapped_next (numbered_param (param_names c.args.locals.now)) c.args.params.now c.loop-item.item-index c.item-item.result c.loop-item.numbered.items _ _ (omega arith) c.item-item.is c.loop-item.invariant c.in_ok-push.ensures.items c.param.ensures
+loop-item-preserved c =
+    mapped_next (numbered_param (param_names c.args.locals.now)) c.args.params.now c.loop-item.item-index c.item-item.result
+    c.loop-item.numbered.items _ _ (omega arith) c.item-item.is c.loop-item.invariant c.in_ok-push.ensures.items c.param.ensures
 
 pub returns : goal.returns
 returns c =

@@ -8,7 +8,9 @@ use Rattle.ak_valid.proofs.LeastKinds.{least_next}
 use Rattle.ak_valid.proofs.uses.deferreds.Goals as goal
 
 pub loop-name-preserved : goal.loop-name-preserved
-loop-name-preserved c = least_next (λ (d : List ℕ). use_faults c.args.locals.now (local d Def)) c.args.names.now c.loop-name.name-index c.name-item.result c.loop-name.fault _ c.local.result (omega arith) c.name-item.is c.loop-name.invariant c.local.ensures c.lesser-fault.ensures
+loop-name-preserved c =
+    least_next (λ (d : List ℕ). use_faults c.args.locals.now (local d Def)) c.args.names.now c.loop-name.name-index c.name-item.result
+    c.loop-name.fault _ c.local.result (omega arith) c.name-item.is c.loop-name.invariant c.local.ensures c.lesser-fault.ensures
 
 pub returns : goal.returns
 returns c =

@@ -21,6 +21,8 @@ then_spec 𝓤 𝓛 𝓜 𝓡 wired =
     in via 𝓤 _ (fst∗ 𝓤 _ (emp 𝓤)) (qed 𝓛 (raw (alive 𝓛 f.signature κs qs) ∷ ‵ (owns (types_at f.signature.params κs) a y.0.4) ∷ []) ∵
     enter ! _ _ _ _ _ $ alloc_all ! (λ l. pass_all ! refl ((tt, tt), ((tt, tt), tt)) $ sets ! (agg ! (no_more !)) refl (tt, tt) $
     returns ! (look_at ! 0 refl) $ free_all ! refl $
-    suffices ! _ (ends_at 𝓛 f.ended stayed c y (vstruct vnil) (record { written = a.0.now.written ++ a.1.0.now ∷ [] }) (tt, (tt, tt)) (tt, (tt, tt))) $ says ! refl $
-    pure_i ! (made.the_row.own_val (record { written = a.0.now.written ++ a.1.0.now ∷ [] }) (vstruct vnil ∷ [])) ((λ vss. (tt, tt)), tt) ((tt, (refl, tt)), tt) $
+    suffices ! _ (ends_at 𝓛 f.ended stayed c y (vstruct vnil) (record { written = a.0.now.written ++ a.1.0.now ∷ [] }) (tt, (tt, tt))
+    (tt, (tt, tt))) $ says ! refl $
+    pure_i ! (made.the_row.own_val (record { written = a.0.now.written ++ a.1.0.now ∷ [] }) (vstruct vnil ∷ [])) ((λ vss. (tt, tt)), tt)
+    ((tt, (refl, tt)), tt) $
     move ! (1 ∷ 2 ∷ 0 ∷ []) $ done !)))

@@ -16,15 +16,26 @@ returns-then-not-fits-clause-refused c =
     let xs : List Event = c.as_slice-event-items.result.now in
     let so_far = c.loop-place.invariant in
     subst (λ ys. IsFirstIllegal c.args.threads c.args.askers ys c.loop-place.place) c.as_slice-event-items.ensures
-    (first_illegal c.args.threads c.args.askers xs c.loop-place.place c.event-item.result c.loop-place.desk c.loop-place.requests c.loop-place-test.true c.event-item.is so_far.legal so_far.stands so_far.asked c.if-not-fits.ensures)
+    (first_illegal c.args.threads c.args.askers xs c.loop-place.place c.event-item.result c.loop-place.desk c.loop-place.requests
+    c.loop-place-test.true c.event-item.is so_far.legal so_far.stands so_far.asked c.if-not-fits.ensures)
 
 pub note-requires-clause-submits : goal.note-requires-clause-submits
 note-requires-clause-submits c =
-    omega (arith, submits_below c.args.threads c.as_slice-event-items.result.now c.loop-place.place c.loop-place.desk c.loop-place-test.true c.loop-place.invariant.stands, ap length c.as_slice-event-items.ensures)
+    omega (
+      arith,
+      submits_below c.args.threads c.as_slice-event-items.result.now c.loop-place.place c.loop-place.desk
+          c.loop-place-test.true c.loop-place.invariant.stands,
+      ap length c.as_slice-event-items.ensures,
+    )
 
 pub note-requires-clause-helpers : goal.note-requires-clause-helpers
 note-requires-clause-helpers c =
-    omega (arith, helpers_below c.args.threads c.as_slice-event-items.result.now c.loop-place.place c.loop-place.desk c.loop-place-test.true c.loop-place.invariant.stands, ap length c.as_slice-event-items.ensures)
+    omega (
+      arith,
+      helpers_below c.args.threads c.as_slice-event-items.result.now c.loop-place.place c.loop-place.desk
+          c.loop-place-test.true c.loop-place.invariant.stands,
+      ap length c.as_slice-event-items.ensures,
+    )
 
 pub loop-place-init : goal.loop-place-init
 loop-place-init c = record {
@@ -35,10 +46,13 @@ loop-place-init c = record {
 
 pub loop-place-preserved : goal.loop-place-preserved
 loop-place-preserved c =
-    judged c.args.threads c.args.askers c.as_slice-event-items.result.now c.loop-place.place c.event-item.result c.loop-place.desk c.note.new.desk c.loop-place.requests c.note_request.new.requests
-    c.loop-place-test.true c.event-item.is c.loop-place.invariant c.if-not-fits.ensures.0 c.if-not-fits.ensures.1 c.in_ok-note.ensures c.in_ok-note_request.ensures
+    judged c.args.threads c.args.askers c.as_slice-event-items.result.now c.loop-place.place c.event-item.result c.loop-place.desk
+    c.note.new.desk c.loop-place.requests c.note_request.new.requests
+    c.loop-place-test.true c.event-item.is c.loop-place.invariant c.if-not-fits.ensures.0 c.if-not-fits.ensures.1 c.in_ok-note.ensures
+    c.in_ok-note_request.ensures
 
 pub returns-clause-legal : goal.returns-clause-legal
 returns-clause-legal c =
     let xs : List Event = c.as_slice-event-items.result.now in
-    subst (Legal c.args.threads c.args.askers) (take_all c.loop-place.place xs c.loop-place-test.false ∙ c.as_slice-event-items.ensures) c.loop-place.invariant.legal
+    subst (Legal c.args.threads c.args.askers) (take_all c.loop-place.place xs c.loop-place-test.false ∙ c.as_slice-event-items.ensures)
+    c.loop-place.invariant.legal

@@ -18,7 +18,8 @@ pub returns-clause-brought : goal.returns-clause-brought
 returns-clause-brought c =
     let p = c.self.inside in
     rw (← c.self.view_is)
-    (drain_brings p.threads p.askers p.events.items p.desk p.requests _ _ _ c.clear.ensures c.in_ok-copy_owed.ensures c.in_ok-copy_unfetched.ensures c.self.invariant.stands c.self.invariant.asked)
+    (drain_brings p.threads p.askers p.events.items p.desk p.requests _ _ _ c.clear.ensures c.in_ok-copy_owed.ensures
+    c.in_ok-copy_unfetched.ensures c.self.invariant.stands c.self.invariant.asked)
 
 pub returns-clause-ok : goal.returns-clause-ok
 returns-clause-ok c =

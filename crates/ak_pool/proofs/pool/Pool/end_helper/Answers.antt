@@ -9,7 +9,10 @@ pub invariant_of-self : goal.invariant_of-self
 invariant_of-self c =
     let p = c.self.inside in
     let spare : 0 < p.spare = rw (← c.self.view_is) at c.requires.room in
-    pool_kept p _ (event.HelperEnd c.args.no) c.self.invariant
-    (is_open p c.self.invariant (rw (← c.self.view_is) at c.requires.open), active_served p.threads (facts_of p.events.items) p.desk c.args.no c.self.invariant.stands (rw (← c.self.view_is) at c.requires.active))
+    pool_kept p _ (event.HelperEnd c.args.no) c.self.invariant (
+      is_open p c.self.invariant (rw (← c.self.view_is) at c.requires.open),
+      active_served p.threads
+          (facts_of p.events.items) p.desk c.args.no c.self.invariant.stands (rw (← c.self.view_is) at c.requires.active),
+    )
     tt refl refl refl c.push_reserved.ensures.items c.end_helper.ensures.desk refl
     (λ b h le. omega (arith, h, spare, c.end_helper.ensures.due))

@@ -8,13 +8,15 @@ use Rattle.ak_pool.proofs.pool.Pool.finish.Goals as goal
 pub finish-requires-clause-place : goal.finish-requires-clause-place
 finish-requires-clause-place c =
     let p = c.self.inside in
-    let fits = legal_fits p.threads p.askers p.events.items p.desk (event.Finish c.args.thread c.args.id c.args.outcome) c.self.invariant.stands (rw (← c.self.view_is) at c.requires) in
+    let fits = legal_fits p.threads p.askers p.events.items p.desk (event.Finish c.args.thread c.args.id c.args.outcome)
+    c.self.invariant.stands (rw (← c.self.view_is) at c.requires) in
     omega (arith, fits.0, c.number.ensures)
 
 pub finish-requires-clause-runs : goal.finish-requires-clause-runs
 finish-requires-clause-runs c =
     let p = c.self.inside in
-    let fits = legal_fits p.threads p.askers p.events.items p.desk (event.Finish c.args.thread c.args.id c.args.outcome) c.self.invariant.stands (rw (← c.self.view_is) at c.requires) in
+    let fits = legal_fits p.threads p.askers p.events.items p.desk (event.Finish c.args.thread c.args.id c.args.outcome)
+    c.self.invariant.stands (rw (← c.self.view_is) at c.requires) in
     rw c.number.ensures (ends_some c.args.id c.args.outcome (thread_at p.desk c.args.thread).running fits.1)
 
 pub invariant_of-self : goal.invariant_of-self

@@ -21,4 +21,5 @@ returns-in-Some c =
     let idle = idle_of p.threads p.events.items p.desk t c.self.invariant.stands lt (rw (← c.self.view_is) at c.requires.idle) in
     let next : next_of p.desk t ≡ Some c.in-Some.task = ap (next_of p.desk) (sym c.number.ensures) ∙ sym c.next.ensures ∙ c.in-Some.is in
     rw (← c.self.view_is)
-    (may_given p.threads p.events.items p.desk t (Some c.in-Some.task.id) c.self.invariant.stands (sym c.is_closed.ensures ∙ c.if-is_closed.false) lt idle (ap task_id next))
+    (may_given p.threads p.events.items p.desk t (Some c.in-Some.task.id) c.self.invariant.stands
+    (sym c.is_closed.ensures ∙ c.if-is_closed.false) lt idle (ap task_id next))

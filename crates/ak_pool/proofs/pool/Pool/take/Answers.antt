@@ -8,7 +8,8 @@ use Rattle.ak_pool.proofs.pool.Pool.take.Goals as goal
 pub begin-requires-clause-idle : goal.begin-requires-clause-idle
 begin-requires-clause-idle c =
     let p = c.self.inside in
-    rw c.number.ensures (idle_of p.threads p.events.items p.desk c.args.thread c.self.invariant.stands (rw (← c.self.view_is) at c.requires.exists) (rw (← c.self.view_is) at c.requires.idle))
+    rw c.number.ensures (idle_of p.threads p.events.items p.desk c.args.thread c.self.invariant.stands
+    (rw (← c.self.view_is) at c.requires.exists) (rw (← c.self.view_is) at c.requires.idle))
 
 pub invariant_of-self-in-Some : goal.invariant_of-self-in-Some
 invariant_of-self-in-Some c =
@@ -29,8 +30,11 @@ returns-in-None-clause-taken c =
     let p = c.self.inside in
     let next : next_of p.desk c.args.thread ≡ None =
     ap (next_of p.desk) (sym c.number.ensures) ∙ sym c.begin.ensures.task ∙ c.in-None.is in
-    rw (← c.self.view_is)
-    (sym c.self.invariant.stands.closed ∙ sym c.is_closed.ensures ∙ c.if-is_closed.false, none_starts p.threads p.events.items p.desk c.args.thread c.self.invariant.stands next, refl)
+    rw (← c.self.view_is) (
+      sym c.self.invariant.stands.closed ∙ sym c.is_closed.ensures ∙ c.if-is_closed.false,
+      none_starts p.threads p.events.items p.desk c.args.thread c.self.invariant.stands next,
+      refl,
+    )
 
 pub returns-in-Some-clause-taken : goal.returns-in-Some-clause-taken
 returns-in-Some-clause-taken c =
@@ -40,5 +44,10 @@ returns-in-Some-clause-taken c =
     let idle = idle_of p.threads p.events.items p.desk t c.self.invariant.stands lt (rw (← c.self.view_is) at c.requires.idle) in
     let next : next_of p.desk t ≡ Some c.in-Some.task =
     ap (next_of p.desk) (sym c.number.ensures) ∙ sym c.begin.ensures.task ∙ c.in-Some.is in
-    rw (← c.self.view_is)
-    (may_fit p.threads p.events.items p.desk t c.in-Some.task.id c.self.invariant.stands (start_fits p.desk t c.in-Some.task (sym c.is_closed.ensures ∙ c.if-is_closed.false) (omega (arith, lt, c.self.invariant.stands.size)) idle next), next_work p.threads p.events.items p.desk t c.in-Some.task c.self.invariant.stands lt next, c.push_reserved.ensures.items)
+    rw (← c.self.view_is) (
+      may_fit p.threads p.events.items p.desk t c.in-Some.task.id c.self.invariant.stands
+          (start_fits p.desk t c.in-Some.task (sym c.is_closed.ensures ∙ c.if-is_closed.false)
+          (omega (arith, lt, c.self.invariant.stands.size)) idle next),
+      next_work p.threads p.events.items p.desk t c.in-Some.task c.self.invariant.stands lt next,
+      c.push_reserved.ensures.items,
+    )

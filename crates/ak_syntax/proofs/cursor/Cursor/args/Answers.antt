@@ -25,10 +25,12 @@ loop-args-smaller c =
 pub loop-args-preserved : goal.loop-args-preserved
 loop-args-preserved c =
     let next : listed_at c.args.until c.loop-args.self ≡ Ok (Some c.in-Some.word.now, c.listed.new.self) = rw (c.in-Some.is) at c.in_ok-word.ensures in
-    goes_on atom_found c.args.until c.loop-args.self c.listed.new.self c.mark.new.self c.loop-args.args c.push.new.self c.in-Some.word.now c.in_ok-arg.arg c.in_ok-arg.faulty _
+    goes_on atom_found c.args.until c.loop-args.self c.listed.new.self c.mark.new.self c.loop-args.args c.push.new.self c.in-Some.word.now
+    c.in_ok-arg.arg c.in_ok-arg.faulty _
     c.loop-args.invariant next c.in_ok-arg.ensures c.in_ok-push.ensures.ok (ap (λ w. w.words) c.mark.ensures) (ap (λ w. w.faulty) c.mark.ensures)
 
 pub returns : goal.returns
 returns c =
-    let over : listed_at c.args.until c.loop-args.self ≡ Ok (None, c.listed.new.self) = rw (is_none c.in_ok-word.field-0 c.in_default.not-Some) at c.in_ok-word.ensures in
+    let over : listed_at c.args.until c.loop-args.self ≡ Ok (None, c.listed.new.self) =
+    rw (is_none c.in_ok-word.field-0 c.in_default.not-Some) at c.in_ok-word.ensures in
     ends atom_found c.args.until c.loop-args.self c.listed.new.self c.loop-args.args _ c.loop-args.invariant over

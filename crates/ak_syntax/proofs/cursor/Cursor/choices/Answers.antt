@@ -23,7 +23,8 @@ returns-in_err-proc c =
     let p = err_from_is_err_and c.from_residual-in_err-proc.result c.from_residual-in_err-proc.ensures.1 in
     let next : listed_at With c.loop-choices.self ≡ Ok (Some c.in-Some.word.now, c.listed.new.self) = rw (c.in-Some.is) at c.in_ok-word.ensures in
     rw (p.1, p.2) (refused_as c.in_err-proc.field-0.0 (name_at c.listed.new.self) (choices_at c.args.self.now) c.in_err-proc.ensures
-    (λ kind h. choice_stops_second c.loop-choices.self c.listed.new.self c.loop-choices.choices c.in-Some.word.now c.in_ok-d.d _ kind c.loop-choices.invariant next c.in_ok-d.ensures h))
+    (λ kind h. choice_stops_second c.loop-choices.self c.listed.new.self c.loop-choices.choices c.in-Some.word.now c.in_ok-d.d _ kind
+    c.loop-choices.invariant next c.in_ok-d.ensures h))
 
 pub loop-choices-smaller : goal.loop-choices-smaller
 loop-choices-smaller c =
@@ -33,10 +34,12 @@ loop-choices-smaller c =
 pub loop-choices-preserved : goal.loop-choices-preserved
 loop-choices-preserved c =
     let next : listed_at With c.loop-choices.self ≡ Ok (Some c.in-Some.word.now, c.listed.new.self) = rw (c.in-Some.is) at c.in_ok-word.ensures in
-    choice_goes_on c.loop-choices.self c.listed.new.self c.name-in-Some.new.self c.loop-choices.choices c.push.new.self c.in-Some.word.now c.in_ok-d.d c.in_ok-proc.proc _
+    choice_goes_on c.loop-choices.self c.listed.new.self c.name-in-Some.new.self c.loop-choices.choices c.push.new.self c.in-Some.word.now
+    c.in_ok-d.d c.in_ok-proc.proc _
     c.loop-choices.invariant next c.in_ok-d.ensures c.in_ok-proc.ensures c.in_ok-push.ensures.ok
 
 pub returns : goal.returns
 returns c =
-    let over : listed_at With c.loop-choices.self ≡ Ok (None, c.listed.new.self) = rw (is_none c.in_ok-word.field-0 c.in_default.not-Some) at c.in_ok-word.ensures in
+    let over : listed_at With c.loop-choices.self ≡ Ok (None, c.listed.new.self) =
+    rw (is_none c.in_ok-word.field-0 c.in_default.not-Some) at c.in_ok-word.ensures in
     choices_end c.loop-choices.self c.listed.new.self c.loop-choices.choices _ c.loop-choices.invariant over

@@ -49,5 +49,6 @@ loop-args-preserved c =
 
 pub returns : goal.returns
 returns c =
-    let over : listed_at LineEnd c.loop-args.self ≡ Ok (None, c.listed.new.self) = rw (is_none c.in_ok-word.field-0 c.in_default.not-Some) at c.in_ok-word.ensures in
+    let over : listed_at LineEnd c.loop-args.self ≡ Ok (None, c.listed.new.self) =
+    rw (is_none c.in_ok-word.field-0 c.in_default.not-Some) at c.in_ok-word.ensures in
     guard_ends c.loop-args.self c.listed.new.self c.loop-args.args _ c.loop-args.invariant over

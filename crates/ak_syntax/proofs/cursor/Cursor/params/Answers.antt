@@ -16,7 +16,8 @@ returns-in_err-param c =
     let p = err_from_is_err_and c.from_residual-in_err-param.result c.from_residual-in_err-param.ensures.1 in
     let next : listed_at LineEnd c.loop-params.self ≡ Ok (Some c.in-Some.word.now, c.listed.new.self) = rw (c.in-Some.is) at c.in_ok-word.ensures in
     rw (p.1, p.2) (refused_as c.in_err-param.field-0.0 (param_found c.in-Some.word.now) (params_at c.args.self.now) c.in_err-param.ensures
-    (λ kind h. stops_at (plain param_found) LineEnd c.loop-params.self c.listed.new.self c.loop-params.params c.in-Some.word.now _ kind c.loop-params.invariant next (plain_err param_found c.in-Some.word.now kind h)))
+    (λ kind h. stops_at (plain param_found) LineEnd c.loop-params.self c.listed.new.self c.loop-params.params c.in-Some.word.now _ kind
+    c.loop-params.invariant next (plain_err param_found c.in-Some.word.now kind h)))
 
 pub loop-params-smaller : goal.loop-params-smaller
 loop-params-smaller c =
@@ -26,10 +27,12 @@ loop-params-smaller c =
 pub loop-params-preserved : goal.loop-params-preserved
 loop-params-preserved c =
     let next : listed_at LineEnd c.loop-params.self ≡ Ok (Some c.in-Some.word.now, c.listed.new.self) = rw (c.in-Some.is) at c.in_ok-word.ensures in
-    goes_on (plain param_found) LineEnd c.loop-params.self c.listed.new.self c.listed.new.self c.loop-params.params c.push.new.self c.in-Some.word.now c.in_ok-param.field-0 false _
+    goes_on (plain param_found) LineEnd c.loop-params.self c.listed.new.self c.listed.new.self c.loop-params.params c.push.new.self
+    c.in-Some.word.now c.in_ok-param.field-0 false _
     c.loop-params.invariant next (plain_ok param_found c.in-Some.word.now c.in_ok-param.field-0 c.in_ok-param.ensures) c.in_ok-push.ensures.ok refl refl
 
 pub returns : goal.returns
 returns c =
-    let over : listed_at LineEnd c.loop-params.self ≡ Ok (None, c.listed.new.self) = rw (is_none c.in_ok-word.field-0 c.in_default.not-Some) at c.in_ok-word.ensures in
+    let over : listed_at LineEnd c.loop-params.self ≡ Ok (None, c.listed.new.self) =
+    rw (is_none c.in_ok-word.field-0 c.in_default.not-Some) at c.in_ok-word.ensures in
     ends (plain param_found) LineEnd c.loop-params.self c.listed.new.self c.loop-params.params _ c.loop-params.invariant over

@@ -20,7 +20,9 @@ leave-requires-clause-log g c κs =
 pub returns-then-value-units-clause-added : goal.returns-then-value-units-clause-added
 returns-then-value-units-clause-added g c =
     let was = c.enter-held.result.was in
-    let found : replicate c.args.units unit ≡ events was = ap (λ n. replicate n unit) (sym c.if-value-units.true) ∙ (ap (λ d. replicate d.units unit) c.value.ensures ∙ c.enter-held.ensures.value.1) in
+    let found : replicate c.args.units unit ≡ events was =
+    ap (λ n. replicate n unit) (sym c.if-value-units.true)
+    ∙ (ap (λ d. replicate d.units unit) c.value.ensures ∙ c.enter-held.ensures.value.1) in
     λ _. (
       was,
       sym (length-map was (λ x. x.1)) ∙ (ap length (sym found) ∙ length-replicate c.args.units unit),

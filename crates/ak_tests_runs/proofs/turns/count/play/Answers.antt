@@ -40,7 +40,8 @@ module _ {E : Type 0} (unit : E) (all : (e : E) → unit ≡ e) where
   first : (p p' : PassView E) (numbers : List ℕ) → p.number ≡ 0 → p.mine ≡ [] → Added 0 numbers p p' → (p'.seen ≡ (0, unit) ∷ []) × (p'.mine ≡ unit ∷ [])
   first p p' numbers number bare a = (seen_is p p' a.0 [] 0 number (none a.0 a.1) a.4, mine_is p p' a.0 bare a.4)
 
-  second : (p p' : PassView E) (numbers : List ℕ) → numbers ≡ 0 ∷ 1 ∷ [] → p.number ≡ 1 → p.mine ≡ [] → Added 1 numbers p p' → (p'.seen ≡ (0, unit) ∷ (1, unit) ∷ []) × (p'.mine ≡ unit ∷ [])
+  second : (p p' : PassView E) (numbers : List ℕ) → numbers ≡ 0 ∷ 1 ∷ [] → p.number ≡ 1 → p.mine ≡ [] → Added 1 numbers p p'
+      → (p'.seen ≡ (0, unit) ∷ (1, unit) ∷ []) × (p'.mine ≡ unit ∷ [])
   second p p' numbers two number bare a =
       let own : events_by 1 a.0 ≡ [] = subst (λ n. events_by n a.0 ≡ []) number (a.2.own ∙ bare) in
       let was : a.0 ≡ (0, unit) ∷ [] = one_of_0 a.0 a.1 (subst (λ ns. Each (IsAllowed May ns) a.0) two a.3.0) own in
@@ -51,12 +52,16 @@ unit = record {}
 
 pub returns-clause-seen : goal.returns-clause-seen
 returns-clause-seen g c = λ yes.
-    let a = first unit (λ _. refl) c.args.zero.now c.add_at-first.new.pass _ c.requires.zero.0 c.requires.zero.1 (c.add_at-first.ensures.added c.if-not-first.false) in
-    let b = second unit (λ _. refl) c.visit.new.pass c.add_at-second.new.pass _ c.requires.turn.2 (c.visit.ensures.turn.1 ∙ c.requires.one.0) (c.visit.ensures.mine ∙ c.requires.one.1) (c.add_at-second.ensures.added yes) in
+    let a = first unit (λ _. refl) c.args.zero.now c.add_at-first.new.pass _ c.requires.zero.0 c.requires.zero.1
+    (c.add_at-first.ensures.added c.if-not-first.false) in
+    let b = second unit (λ _. refl) c.visit.new.pass c.add_at-second.new.pass _ c.requires.turn.2
+    (c.visit.ensures.turn.1 ∙ c.requires.one.0) (c.visit.ensures.mine ∙ c.requires.one.1) (c.add_at-second.ensures.added yes) in
     (a.0, b.0)
 
 pub returns-clause-mine : goal.returns-clause-mine
 returns-clause-mine g c = λ yes.
-    let a = first unit (λ _. refl) c.args.zero.now c.add_at-first.new.pass _ c.requires.zero.0 c.requires.zero.1 (c.add_at-first.ensures.added c.if-not-first.false) in
-    let b = second unit (λ _. refl) c.visit.new.pass c.add_at-second.new.pass _ c.requires.turn.2 (c.visit.ensures.turn.1 ∙ c.requires.one.0) (c.visit.ensures.mine ∙ c.requires.one.1) (c.add_at-second.ensures.added yes) in
+    let a = first unit (λ _. refl) c.args.zero.now c.add_at-first.new.pass _ c.requires.zero.0 c.requires.zero.1
+    (c.add_at-first.ensures.added c.if-not-first.false) in
+    let b = second unit (λ _. refl) c.visit.new.pass c.add_at-second.new.pass _ c.requires.turn.2
+    (c.visit.ensures.turn.1 ∙ c.requires.one.0) (c.visit.ensures.mine ∙ c.requires.one.1) (c.add_at-second.ensures.added yes) in
     (a.1, b.1)

@@ -9,7 +9,8 @@ use Rattle.ak_throttle.proofs.throttle.Throttle.next_done.Goals as goal
 pub invariant_of-self : goal.invariant_of-self
 invariant_of-self g c =
     let p = c.self.inside
-    in kept_reached p.most p.dead p.progress p.lost p.bodies.items p.marks.items c.take_reached.new.marks.items c.over_front-over.result c.self.invariant c.take_reached.ensures.rest
+    in kept_reached p.most p.dead p.progress p.lost p.bodies.items p.marks.items c.take_reached.new.marks.items c.over_front-over.result
+    c.self.invariant c.take_reached.ensures.rest
 
 pub returns-clause-front : goal.returns-clause-front
 returns-clause-front g c =

@@ -16,7 +16,8 @@ pub lost-self-inside-requires : goal.lost-self-inside-requires
 lost-self-inside-requires g c =
     let p = c.self.inside
     in λ alive.
-    let small : length p.progress.overs + length p.bodies.items < 2 ^ 32 = small_alive p.most p.dead p.progress p.lost p.bodies.items p.marks.items c.self.invariant alive
+    let small : length p.progress.overs + length p.bodies.items < 2 ^ 32 =
+    small_alive p.most p.dead p.progress p.lost p.bodies.items p.marks.items c.self.invariant alive
     in let same : length p.bodies.items ≡ deque_len p.bodies = search rules
     in omega (arith, small, same)
 
@@ -30,4 +31,10 @@ returns-clause-bodies g c =
     ∙ ap (λ t. plain.killed (plain.body_over c.args.no t)) c.self.view_is
 
 pub returns-clause-most : goal.returns-clause-most
-returns-clause-most g c = omega (arith, c.self.invariant.few, c.end.ensures.running, running_same true c.end.new.self.overs c.lost-self-inside.result c.self.inside.bodies.items)
+returns-clause-most g c =
+    omega (
+      arith,
+      c.self.invariant.few,
+      c.end.ensures.running,
+      running_same true c.end.new.self.overs c.lost-self-inside.result c.self.inside.bodies.items,
+    )

@@ -5,4 +5,5 @@ use Rattle.ak_valid.proofs.Tables.{kind_looked}
 use Rattle.ak_valid.proofs.locals.Locals.kind.Goals as goal
 
 pub returns : goal.returns
-returns c = c.copied.ensures ∙ c.get.ensures.value ∙ kind_looked c.self.inside.kinds.entries c.args.name.now ∙ ap (λ (known : List Param). option_map (λ (param : Param). param.kind) (local_named known c.args.name.now)) c.self.view_is
+returns c = c.copied.ensures ∙ c.get.ensures.value ∙ kind_looked c.self.inside.kinds.entries c.args.name.now
+    ∙ ap (λ (known : List Param). option_map (λ (param : Param). param.kind) (local_named known c.args.name.now)) c.self.view_is

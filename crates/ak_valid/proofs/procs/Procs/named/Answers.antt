@@ -6,4 +6,5 @@ use Rattle.ak_valid.proofs.Tables.{proc_looked}
 use Rattle.ak_valid.proofs.procs.Procs.named.Goals as goal
 
 pub returns : goal.returns
-returns c = ap option_copied (c.copied.ensures ∙ c.get.ensures.value) ∙ proc_looked c.self.inside.procs.entries c.args.name.now c.self.invariant ∙ ap (λ (procs : List Proc). proc_named procs c.args.name.now) c.self.view_is
+returns c = ap option_copied (c.copied.ensures ∙ c.get.ensures.value) ∙ proc_looked c.self.inside.procs.entries c.args.name.now
+    c.self.invariant ∙ ap (λ (procs : List Proc). proc_named procs c.args.name.now) c.self.view_is
