@@ -1,13 +1,13 @@
 //! The groups of a run, and which of them are decided.
 
-ghost use Rattle.std.specs.Prelude.{◌≡◌, ◌+◌, ◌-◌, ◌<◌, ◌≤◌, ◌^◌, [], ◌∷◌, not, length, None, OnOk, OnErr, IfOk};
+ghost use Rattle.std.specs.Prelude.{◌≡◌, ◌<◌, ◌≤◌, [], not, length, None, OnOk, OnErr, IfOk};
 ghost use Rattle.ak_base.specs.Lists.{first_of};
 ghost use Rattle.ak_choice.specs.Groups as plain;
 
 use crate::group::Group;
 use ak_base::list::NoMemory;
 use ak_base::number::{GroupNo, Num, RegNo};
-use std::alloc::Global;
+use std::alloc::{AllocError, Global};
 use std::marker::Model;
 
 /// The groups of `all`, `any` and `choose` and the guards of `try`. Contracts see the list of them: each is undecided or
@@ -40,18 +40,20 @@ impl Groups {
     }
 
     /// Begins a group, undecided, with so many parts without a number, at most 8, and gives its number: how many groups
-    /// there were, which are fewer than 4,294,967,295.
+    /// there were.
     ///
     /// # Errors
     ///
-    /// `NoMemory`. The groups are then as before.
+    /// `NoMemory`, also where no number of 32 bits is left. The groups are then as before.
     pub fn begin(&mut self, parts: u32) -> Result<GroupNo, NoMemory>
         requires few { parts ≤ 8 }
-        requires numbers { length self.old < 2 ^ 32 - 1 }
         ensures number { IfOk result (λ g. g ≡ length self.old) }
         ensures ok { OnOk result (self.new ≡ plain.with_group parts self.old) }
         ensures err { OnErr result (self.new ≡ self.old) }
     {
+        if self.groups.len() >= u32::MAX as usize {
+            return Err(AllocError);
+        }
         let g = GroupNo::new(self.groups.len() as u32);
         self.groups.push(Group::new(self.alloc, parts)?)?;
         Ok(g)

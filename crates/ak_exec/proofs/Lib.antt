@@ -1,5 +1,3 @@
-mod Stands
-mod Locals
 mod Values
 pub mod Fitting
 pub mod Typed

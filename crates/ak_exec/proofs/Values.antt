@@ -13,7 +13,7 @@ use Rattle.ak_program.specs.declared.statement.NumAtom.{NumAtom}
 use Rattle.ak_program.specs.declared.statement.NumAtom.TheVariants.{Literal, Local}
 use Rattle.ak_program.specs.Programs.{local as used, number, returned, IsKnown, IsPassed, Takes, IsCallable}
 use Rattle.ak_machine.specs.Effect.{local, value_of, args_of}
-use Rattle.ak_exec.specs.Ready.{IsNum, IsNumAt, IsDeferred, IsBound, AreBound}
+use Rattle.ak_state.specs.Reads.{IsNum, IsNumAt, IsDeferred, IsBound, AreBound}
 use Rattle.ak_exec.specs.Fits.{ValueFits, ValsFit, kinds_of, CallFits, IsReturned}
 
 -- ---- kinds that serve

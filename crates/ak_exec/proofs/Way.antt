@@ -19,7 +19,7 @@ use Rattle.ak_machine.specs.Effect.{Effect, Goes, Raises, Returns}
 use Rattle.ak_machine.specs.Statement.{line_effect}
 use Rattle.ak_machine.specs.Errors.{going_on, send}
 use Rattle.ak_machine.specs.Job.{Over, returned, run_lines, lines_of}
-use Rattle.ak_exec.specs.Seen.{Seen}
+use Rattle.ak_state.specs.Seen.{Seen}
 use Rattle.ak_exec.specs.Steps.{Takes, ended_by}
 use Rattle.ak_exec.specs.declared.statement.Step.{Step}
 use Rattle.ak_exec.specs.declared.statement.Step.TheVariants as step_is

@@ -13,7 +13,7 @@ use Rattle.ak_machine.specs.State.{initial_state}
 use Rattle.ak_machine.specs.Deferred.{noting}
 use Rattle.ak_machine.specs.Cycle.{cycle_begun}
 use Rattle.ak_machine.specs.Mapped.{job_mapped}
-use Rattle.ak_exec.specs.Seen.{Seen, doing, without_pick}
+use Rattle.ak_state.specs.Seen.{Seen, doing, without_pick}
 use Rattle.ak_exec.specs.Fits.{JobFits, Fits}
 use Rattle.ak_holders.specs.Told.{IsOther}
 use Rattle.ak_holders.specs.Held.{HeldBy, HeldBeside}

@@ -1,4 +1,3 @@
-pub mod Seen
 pub mod Ready
 pub mod Steps
 pub mod Built

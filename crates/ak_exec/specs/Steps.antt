@@ -5,6 +5,7 @@ use Rattle.ak_cells.specs.Names.{name_in}
 use Rattle.ak_frames.specs.declared.value.Value.{Value}
 use Rattle.ak_frames.specs.declared.frame.Ret.{Ret}
 use Rattle.ak_program.specs.declared.program.NumStatement.{NumStatement}
+use Rattle.ak_program.specs.declared.statement.NumStmt.{NumStmt}
 use Rattle.ak_trace.specs.declared.entry.Entry.{Entry}
 use Rattle.ak_machine.specs.declared.flow.Flow.{Flow}
 use Rattle.ak_machine.specs.declared.flow.Flow.TheVariants.{On, Stopped, Unhandled}
@@ -14,20 +15,25 @@ use Rattle.ak_machine.specs.Number.{Computed, Gives, Overflows, DividesByZero}
 use Rattle.ak_machine.specs.Mapped.{value_mapped}
 use Rattle.ak_machine.specs.Effect.{Effect}
 use Rattle.ak_machine.specs.Effect as effect
+use Rattle.ak_machine.specs.Statement.{effect_of}
 use Rattle.ak_machine.specs.Errors.{After, going_on, send}
 use Rattle.ak_machine.specs.Job.{Progress, Over, returned, run_lines}
-use Rattle.ak_exec.specs.Seen.{Seen}
-use Rattle.ak_exec.specs.Ready.{named}
+use Rattle.ak_state.specs.Seen.{Seen}
+use Rattle.ak_state.specs.Reads.{named}
 use Rattle.ak_exec.specs.declared.arithmetic.Given.{Given}
 use Rattle.ak_exec.specs.declared.arithmetic.Given.TheVariants as given
 use Rattle.ak_exec.specs.declared.statement.Step.{Step}
 use Rattle.ak_exec.specs.declared.statement.Step.TheVariants.{Goes, Raises, Returns}
 
--- a step has this effect; where it doesn't go on, the state is as before
+-- a step has this effect: it renames nothing, and where it doesn't go on, the state is as before
 abbrev pub Takes : Effect → Step → Seen → Seen → List Value → Type 0
-Takes e Goes old new vals = e ≡ effect.Goes new.plain (named new vals)
+Takes e Goes old new vals = (e ≡ effect.Goes new.plain (named new vals)) × (new.names ≡ old.names)
 Takes e (Raises num) old new vals = (e ≡ effect.Raises num) × (new ≡ old)
 Takes e (Returns v) old new vals = (e ≡ effect.Returns (value_mapped (name_in new.names) v)) × (new ≡ old)
+
+-- a statement of a job, from a state and the job's values to others
+abbrev pub Does : Ctx → NumStmt → Seen → List Value → Step → Seen → List Value → Type 0
+Does ctx st old vals step new vals' = Takes (effect_of ctx st old.plain (named old vals)) step old new vals'
 
 -- what an operation gives, as the code says it
 abbrev pub given_is : Given → Computed

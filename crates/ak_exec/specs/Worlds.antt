@@ -12,7 +12,7 @@ use Rattle.ak_machine.specs.State.{State, initial_state}
 use Rattle.ak_machine.specs.Deferred.{called}
 use Rattle.ak_machine.specs.Mapped.{job_mapped}
 use Rattle.ak_machine.specs.Job.{Over, run_job}
-use Rattle.ak_exec.specs.Seen.{Seen, without_pick}
+use Rattle.ak_state.specs.Seen.{Seen, without_pick}
 use Rattle.ak_exec.specs.Steps.{after_is}
 use Rattle.ak_program.specs.Programs.{NumProgram}
 use Rattle.ak_exec.specs.Built.{AreBuilt}

@@ -1,20 +1,18 @@
 //! How a job runs: its statements, its return, and each kind of frame.
 
-ghost use Rattle.std.specs.Prelude.{◌≡◌, ◌≢◌, ◌+◌, ◌<◌, pos, ◌∷◌, length, drop, None, IfOk, OnOk, IfNone, IfSome};
+ghost use Rattle.std.specs.Prelude.{◌≡◌, ◌≢◌, ◌+◌, ◌<◌, ◌∷◌, length, drop, None, IfOk, OnOk, IfNone, IfSome};
 ghost use Rattle.ak_cells.specs.Names.{name_in};
 ghost use Rattle.ak_machine.specs.Deferred.{number_at as full_with};
 ghost use Rattle.ak_machine.specs.Effect.{holds};
-ghost use Rattle.ak_machine.specs.Errors.{send as send_of};
 ghost use Rattle.ak_machine.specs.Job.{Over, run_lines as lines_run, run_frame as frame_run, run_job as job_run, returned as returned_by, lines_of, value_or_zero};
-ghost use Rattle.ak_machine.specs.Mapped.{ret_mapped, frame_mapped, value_mapped, job_mapped};
 ghost use Rattle.ak_machine.specs.Statement.{line_effect};
 ghost use Rattle.ak_holders.specs.Returns.{IsEmptyResult, LinesReturn, FrameReturns, JobReturns};
 ghost use Rattle.ak_exec.specs.Built.{AreBuilt};
 ghost use Rattle.ak_exec.specs.Fits.{Fits, RetFits, CallFits, FrameFits, JobFits, IsReturned, IsUnderWay};
-ghost use Rattle.ak_exec.specs.Ready.{named, IsReady, IsTold};
+ghost use Rattle.ak_state.specs.Reads.{named, value_named, ret_named, frame_named, job_named};
+ghost use Rattle.ak_exec.specs.Ready.{IsReady, IsTold};
 ghost use Rattle.ak_exec.specs.Steps.{Takes, ended_by, after_is, progress_of, Ends};
 
-use crate::parts::Parts;
 use crate::statement::{Step, run_statement};
 use ak_base::list::{Items, NoMemory};
 use ak_base::number::{Ctx, IvarNo, Num};
@@ -23,8 +21,15 @@ use ak_frames::value::{Vals, Value};
 use ak_machine::flow::Flow;
 use ak_program::program::{NumPrefix, NumStatement, Program};
 use ak_rings::job::Job;
+use ak_state::parts::Parts;
 use ak_trace::entry::Entry;
-use std::alloc::Global;
+
+/// Where a job runs, and what its return is for.
+#[derive(Clone, Copy, PartialEq, Eq, Debug)]
+pub struct Running {
+    pub ctx: Ctx,
+    pub ret: Ret,
+}
 
 /// Whether a line's statement is run.
 fn is_run(parts: &Parts, prefix: Option<NumPrefix>, vals: &Vals) -> bool
@@ -40,7 +45,6 @@ fn is_run(parts: &Parts, prefix: Option<NumPrefix>, vals: &Vals) -> bool
 
 /// One line of a job.
 fn run_line(
-    alloc: Global,
     parts: &mut Parts,
     ctx: Ctx,
     line: &NumStatement,
@@ -48,13 +52,12 @@ fn run_line(
 ) -> Result<Step, NoMemory>
     requires told { IsTold (named parts.old vals.old) line.now.prefix }
     requires ready { IsReady parts.old.plain (named parts.old vals.old) line.now.stmt }
-    ensures takes { IfOk result (λ step.
+    ensures { IfOk result (λ step.
         Takes (line_effect ctx line.now parts.old.plain (named parts.old vals.old))
         step parts.old parts.new vals.new) }
-    ensures names { OnOk result (parts.new.names ≡ parts.old.names) }
 {
     if is_run(parts, line.prefix, vals) {
-        run_statement(alloc, parts, ctx, &line.stmt, vals)
+        run_statement(parts, ctx, &line.stmt, vals)
     } else {
         Ok(Step::Goes)
     }
@@ -89,11 +92,11 @@ fn return_deferred(parts: &mut Parts, r: IvarNo, i: IvarNo) -> Result<(), NoMemo
 fn return_value(parts: &mut Parts, r: IvarNo, value: Value) -> Result<(), NoMemory>
     requires result { name_in parts.old.names r < length parts.old.plain.cells.ivars }
     requires value { IsReturned (length parts.old.plain.cells.ivars)
-        (value_mapped (name_in parts.old.names) value) }
+        (value_named parts.old value) }
     requires empty { full_with (name_in parts.old.names r) parts.old.plain ≡ None }
     ensures { OnOk result (parts.new.plain
         ≡ returned_by (Ret.To (name_in parts.old.names r))
-        (value_mapped (name_in parts.old.names) value) parts.old.plain) }
+        (value_named parts.old value) parts.old.plain) }
 {
     match value {
         Value::Num(num) => return_number(parts, r, num),
@@ -106,13 +109,13 @@ fn return_value(parts: &mut Parts, r: IvarNo, value: Value) -> Result<(), NoMemo
 /// A procedure returns.
 fn returned(parts: &mut Parts, ret: Ret, value: Value) -> Result<(), NoMemory>
     requires ret { RetFits (length parts.old.plain.cells.ivars)
-        (ret_mapped (name_in parts.old.names) ret) }
+        (ret_named parts.old ret) }
     requires value { IsReturned (length parts.old.plain.cells.ivars)
-        (value_mapped (name_in parts.old.names) value) }
-    requires empty { IsEmptyResult (ret_mapped (name_in parts.old.names) ret) parts.old.plain }
+        (value_named parts.old value) }
+    requires empty { IsEmptyResult (ret_named parts.old ret) parts.old.plain }
     ensures { OnOk result (parts.new.plain
-        ≡ returned_by (ret_mapped (name_in parts.old.names) ret)
-        (value_mapped (name_in parts.old.names) value) parts.old.plain) }
+        ≡ returned_by (ret_named parts.old ret)
+        (value_named parts.old value) parts.old.plain) }
 {
     match ret {
         Ret::Drop => Ok(()),
@@ -122,26 +125,20 @@ fn returned(parts: &mut Parts, ret: Ret, value: Value) -> Result<(), NoMemory>
 }
 
 /// The end of a job whose lines don't go on.
-fn ended(
-    program: &Program,
-    parts: &mut Parts,
-    ctx: Ctx,
-    ret: Ret,
-    step: Step,
-) -> Result<Flow, NoMemory>
-    requires root { ctx.mon ≡ 0 }
+fn ended(program: &Program, parts: &mut Parts, job: Running, step: Step) -> Result<Flow, NoMemory>
+    requires root { job.ctx.mon ≡ 0 }
     requires ret { RetFits (length parts.old.plain.cells.ivars)
-        (ret_mapped (name_in parts.old.names) ret) }
+        (ret_named parts.old job.ret) }
     requires ends { step ≢ Step.Goes }
     requires returned { (value : Value) → step ≡ Step.Returns value
         → IsReturned (length parts.old.plain.cells.ivars)
-        (value_mapped (name_in parts.old.names) value) }
+        (value_named parts.old value) }
     requires empty { (value : Value) → step ≡ Step.Returns value
-        → IsEmptyResult (ret_mapped (name_in parts.old.names) ret) parts.old.plain }
+        → IsEmptyResult (ret_named parts.old job.ret) parts.old.plain }
     requires fits { Fits program.now.procs parts.old.plain }
     ensures fits { OnOk result (Fits program.now.procs parts.new.plain) }
     ensures told { IfOk result (λ flow. Ends flow parts.new.plain.trace) }
-    ensures ends { IfOk result (λ flow. ended_by ctx (ret_mapped (name_in parts.old.names) ret)
+    ensures ends { IfOk result (λ flow. ended_by job.ctx (ret_named parts.old job.ret)
         (name_in parts.old.names) step parts.old.plain ≡ after_is flow parts.new.plain) }
 {
     match step {
@@ -151,7 +148,7 @@ fn ended(
             Ok(Flow::Unhandled(num))
         }
         Step::Returns(value) => {
-            returned(parts, ret, value)?;
+            returned(parts, job.ret, value)?;
             Ok(Flow::On)
         }
     }
@@ -159,68 +156,64 @@ fn ended(
 
 /// One of the lines runs: `None` where the job goes on with the others.
 fn advance(
-    alloc: Global,
     program: &Program,
     parts: &mut Parts,
-    ctx: &Ctx,
-    ret: &Ret,
+    job: &Running,
     lines: &[NumStatement],
     k: usize,
     vals: &mut Vals,
 ) -> Result<Option<Flow>, NoMemory>
-    requires way { IsUnderWay program.now.procs parts.old.plain (named parts.old vals.old) ctx.now
-        (ret_mapped (name_in parts.old.names) ret.now) (drop k lines.now) }
+    requires way { IsUnderWay program.now.procs parts.old.plain (named parts.old vals.old) job.now.ctx
+        (ret_named parts.old job.now.ret) (drop k lines.now) }
     requires some { k < length lines.now }
-    requires returns { LinesReturn ctx.now (ret_mapped (name_in parts.old.names) ret.now)
+    requires returns { LinesReturn job.now.ctx (ret_named parts.old job.now.ret)
         (drop k lines.now) parts.old.plain (named parts.old vals.old) }
     ensures returns { IfOk result (λ next. IfNone next
-        (LinesReturn ctx.now (ret_mapped (name_in parts.new.names) ret.now)
+        (LinesReturn job.now.ctx (ret_named parts.new job.now.ret)
         (drop (k + 1) lines.now) parts.new.plain (named parts.new vals.new))) }
     ensures way { IfOk result (λ next.
-        IfNone next (IsUnderWay program.now.procs parts.new.plain (named parts.new vals.new) ctx.now
-        (ret_mapped (name_in parts.new.names) ret.now) (drop (k + 1) lines.now))) }
+        IfNone next (IsUnderWay program.now.procs parts.new.plain (named parts.new vals.new) job.now.ctx
+        (ret_named parts.new job.now.ret) (drop (k + 1) lines.now))) }
     ensures fits { OnOk result (Fits program.now.procs parts.new.plain) }
     ensures told { IfOk result (λ next. IfSome next (λ flow. Ends flow parts.new.plain.trace)) }
     ensures runs { IfOk result (λ next.
-        lines_run ctx.now (ret_mapped (name_in parts.old.names) ret.now) (drop k lines.now)
+        lines_run job.now.ctx (ret_named parts.old job.now.ret) (drop k lines.now)
         parts.old.plain (named parts.old vals.old)
-        ≡ progress_of next ctx.now (ret_mapped (name_in parts.new.names) ret.now)
+        ≡ progress_of next job.now.ctx (ret_named parts.new job.now.ret)
         (drop (k + 1) lines.now) parts.new.plain (named parts.new vals.new)) }
 {
-    match run_line(alloc, parts, *ctx, &lines[k], vals)? {
+    match run_line(parts, job.ctx, &lines[k], vals)? {
         Step::Goes => Ok(None),
-        step => Ok(Some(ended(program, parts, *ctx, *ret, step)?)),
+        step => Ok(Some(ended(program, parts, *job, step)?)),
     }
 }
 
 /// The lines of a procedure, to its end. Where it returns to a deferred, that deferred is empty.
 fn run_lines(
-    alloc: Global,
     program: &Program,
     parts: &mut Parts,
-    ctx: &Ctx,
-    ret: &Ret,
+    job: &Running,
     lines: &[NumStatement],
     vals: &mut Vals,
 ) -> Result<Flow, NoMemory>
-    requires way { IsUnderWay program.now.procs parts.old.plain (named parts.old vals.old) ctx.now
-        (ret_mapped (name_in parts.old.names) ret.now) lines.now }
-    requires returns { LinesReturn ctx.now (ret_mapped (name_in parts.old.names) ret.now)
+    requires way { IsUnderWay program.now.procs parts.old.plain (named parts.old vals.old) job.now.ctx
+        (ret_named parts.old job.now.ret) lines.now }
+    requires returns { LinesReturn job.now.ctx (ret_named parts.old job.now.ret)
         lines.now parts.old.plain (named parts.old vals.old) }
     ensures fits { OnOk result (Fits program.now.procs parts.new.plain) }
     ensures told { IfOk result (λ flow. Ends flow parts.new.plain.trace) }
     ensures runs { IfOk result (λ flow.
-        lines_run ctx.now (ret_mapped (name_in parts.old.names) ret.now) lines.now parts.old.plain
+        lines_run job.now.ctx (ret_named parts.old job.now.ret) lines.now parts.old.plain
         (named parts.old vals.old) ≡ Over (after_is flow parts.new.plain)) }
 {
     for k in 0..lines.len() {
-        match advance(alloc, program, parts, ctx, ret, lines, k, vals) {
+        match advance(program, parts, job, lines, k, vals) {
             Ok(None) => {}
             Ok(Some(flow)) => return Ok(flow),
             Err(e) => return Err(e),
         }
     }
-    returned(parts, *ret, Value::Num(0))?;
+    returned(parts, job.ret, Value::Num(0))?;
     Ok(Flow::On)
 }
 
@@ -250,46 +243,35 @@ fn with_value(value: Option<Num>, vals: Vals) -> Result<Vals, NoMemory>
 
 /// A call of a procedure, to its end.
 fn run_call(
-    alloc: Global,
     program: &Program,
     parts: &mut Parts,
-    ctx: Ctx,
+    job: Running,
     proc: usize,
     vals: Vals,
-    ret: Ret,
 ) -> Result<Flow, NoMemory>
     requires built { AreBuilt program.now.procs }
-    requires root { ctx.mon ≡ 0 }
+    requires root { job.ctx.mon ≡ 0 }
     requires call { CallFits program.now.procs (length parts.old.plain.cells.ivars) proc
         (named parts.old vals) }
-    requires returns { LinesReturn ctx (ret_mapped (name_in parts.old.names) ret)
+    requires returns { LinesReturn job.ctx (ret_named parts.old job.ret)
         (lines_of program.now.procs proc) parts.old.plain (named parts.old vals) }
     requires ret { RetFits (length parts.old.plain.cells.ivars)
-        (ret_mapped (name_in parts.old.names) ret) }
+        (ret_named parts.old job.ret) }
     requires fits { Fits program.now.procs parts.old.plain }
     ensures fits { OnOk result (Fits program.now.procs parts.new.plain) }
     ensures told { IfOk result (λ flow. Ends flow parts.new.plain.trace) }
-    ensures runs { IfOk result (λ flow. lines_run ctx (ret_mapped (name_in parts.old.names) ret)
+    ensures runs { IfOk result (λ flow. lines_run job.ctx (ret_named parts.old job.ret)
         (lines_of program.now.procs proc) parts.old.plain (named parts.old vals)
         ≡ Over (after_is flow parts.new.plain)) }
 {
     let mut vals = vals;
     // For the proof alone: its contract says that the program is sound.
     let _main = program.main();
-    run_lines(
-        alloc,
-        program,
-        parts,
-        &ctx,
-        &ret,
-        lines_at(program, proc),
-        &mut vals,
-    )
+    run_lines(program, parts, &job, lines_at(program, proc), &mut vals)
 }
 
 /// A frame, with the number that woke it where it waited for one.
 pub fn run_task(
-    alloc: Global,
     program: &Program,
     parts: &mut Parts,
     ctx: Ctx,
@@ -298,47 +280,44 @@ pub fn run_task(
     requires built { AreBuilt program.now.procs }
     requires root { ctx.mon ≡ 0 }
     requires frame { FrameFits program.now.procs (length parts.old.plain.cells.ivars)
-        (frame_mapped (name_in parts.old.names) task.frame) }
+        (frame_named parts.old task.frame) }
     requires returns { FrameReturns program.now.procs ctx
-        (frame_mapped (name_in parts.old.names) task.frame) (value_or_zero task.value) parts.old.plain }
+        (frame_named parts.old task.frame) (value_or_zero task.value) parts.old.plain }
     requires fits { Fits program.now.procs parts.old.plain }
     ensures fits { OnOk result (Fits program.now.procs parts.new.plain) }
     ensures told { IfOk result (λ flow. Ends flow parts.new.plain.trace) }
     ensures runs { IfOk result (λ flow.
-        frame_run program.now.procs ctx (frame_mapped (name_in parts.old.names) task.frame)
+        frame_run program.now.procs ctx (frame_named parts.old task.frame)
         (value_or_zero task.value) parts.old.plain ≡ Over (after_is flow parts.new.plain)) }
 {
     let Task { frame, value } = task;
     match frame {
-        Frame::Call { proc, vals, ret } => run_call(alloc, program, parts, ctx, proc, vals, ret),
+        Frame::Call { proc, vals, ret } => {
+            run_call(program, parts, Running { ctx, ret }, proc, vals)
+        }
         Frame::OnValue { proc, vals, ret } => {
             let all = with_value(value, vals)?;
-            run_call(alloc, program, parts, ctx, proc, all, ret)
+            run_call(program, parts, Running { ctx, ret }, proc, all)
         }
         _ => unreachable!(),
     }
 }
 
 /// A job with its entry, to its end.
-pub fn run_job(
-    alloc: Global,
-    program: &Program,
-    parts: &mut Parts,
-    job: Job<Task>,
-) -> Result<Flow, NoMemory>
+pub fn run_job(program: &Program, parts: &mut Parts, job: Job<Task>) -> Result<Flow, NoMemory>
     requires built { AreBuilt program.now.procs }
     requires job { JobFits program.now.procs (length parts.old.plain.cells.ivars)
-        (job_mapped (name_in parts.old.names) job) }
-    requires returns { JobReturns program.now.procs (job_mapped (name_in parts.old.names) job)
+        (job_named parts.old job) }
+    requires returns { JobReturns program.now.procs (job_named parts.old job)
         parts.old.plain }
     requires fits { Fits program.now.procs parts.old.plain }
     ensures fits { OnOk result (Fits program.now.procs parts.new.plain) }
     ensures told { IfOk result (λ flow. Ends flow parts.new.plain.trace) }
     ensures runs { IfOk result (λ flow.
-        job_run program.now.procs (job_mapped (name_in parts.old.names) job) parts.old.plain
+        job_run program.now.procs (job_named parts.old job) parts.old.plain
         ≡ Over (after_is flow parts.new.plain)) }
 {
     let Job { no, ctx, frame } = job;
     parts.note(Entry::Job { job: no })?;
-    run_task(alloc, program, parts, ctx, frame)
+    run_task(program, parts, ctx, frame)
 }

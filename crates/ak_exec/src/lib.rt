@@ -3,9 +3,6 @@
 
 mod arithmetic;
 pub mod built;
-mod cells;
 mod job;
-mod local;
-mod parts;
 mod statement;
 pub mod world;

@@ -1,22 +1,21 @@
 //! What each statement does.
 
-ghost use Rattle.std.specs.Prelude.{◌≡◌, length, IfOk, OnOk};
+ghost use Rattle.std.specs.Prelude.{length, IfOk};
 ghost use Rattle.ak_machine.specs.Deferred.{called};
-ghost use Rattle.ak_machine.specs.Effect.{local, args_of, Goes};
-ghost use Rattle.ak_machine.specs.Statement.{effect_of};
-ghost use Rattle.ak_exec.specs.Ready.{named, IsNumAt, IsDeferredAt, IsBound, AreBound, IsReady};
-ghost use Rattle.ak_exec.specs.Steps.{Takes};
+ghost use Rattle.ak_machine.specs.Effect.{args_of, Goes};
+ghost use Rattle.ak_state.specs.Reads.{named, IsNumAt, IsDeferredAt, IsBound, AreBound};
+ghost use Rattle.ak_exec.specs.Ready.{IsReady};
+ghost use Rattle.ak_exec.specs.Steps.{Takes, Does};
 
 use crate::arithmetic::{Given, compute};
-use crate::parts::Parts;
 use ak_base::list::NoMemory;
 use ak_base::number::{Ctx, Num};
 use ak_frames::frame::{Frame, Ret, Task};
 use ak_frames::value::{Vals, Value};
 use ak_program::statement::{NumArgs, NumAtom, NumStmt};
 use ak_script::statement::Operator;
+use ak_state::parts::Parts;
 use ak_trace::entry::Entry;
-use std::alloc::Global;
 
 /// The error of a number beyond 64 bits.
 const OVERFLOW: Num = -1;
@@ -46,10 +45,8 @@ fn set(
 ) -> Result<Step, NoMemory>
     requires left { IsNumAt (named parts.old vals.old) a }
     requires right { IsNumAt (named parts.old vals.old) b }
-    ensures takes { IfOk result (λ step.
-        Takes (effect_of ctx (NumStmt.Set x a op b) parts.old.plain (named parts.old vals.old))
-        step parts.old parts.new vals.new) }
-    ensures names { OnOk result (parts.new.names ≡ parts.old.names) }
+    ensures { IfOk result (λ step.
+        Does ctx (NumStmt.Set x a op b) parts.old vals.old step parts.new vals.new) }
 {
     let left = parts.number_at(vals, a);
     let right = parts.number_at(vals, b);
@@ -65,10 +62,8 @@ fn set(
 
 fn print(parts: &mut Parts, ctx: Ctx, vals: &Vals, a: NumAtom) -> Result<Step, NoMemory>
     requires { IsNumAt (named parts.old vals.now) a }
-    ensures takes { IfOk result (λ step.
-        Takes (effect_of ctx (NumStmt.Print a) parts.old.plain (named parts.old vals.now))
-        step parts.old parts.new vals.now) }
-    ensures names { OnOk result (parts.new.names ≡ parts.old.names) }
+    ensures { IfOk result (λ step.
+        Does ctx (NumStmt.Print a) parts.old vals.now step parts.new vals.now) }
 {
     let num = parts.number_at(vals, a);
     parts.note(Entry::Print { num })?;
@@ -76,10 +71,8 @@ fn print(parts: &mut Parts, ctx: Ctx, vals: &Vals, a: NumAtom) -> Result<Step, N
 }
 
 fn ivar(parts: &mut Parts, ctx: Ctx, vals: &mut Vals, i: usize) -> Result<Step, NoMemory>
-    ensures takes { IfOk result (λ step.
-        Takes (effect_of ctx (NumStmt.Ivar i) parts.old.plain (named parts.old vals.old))
-        step parts.old parts.new vals.new) }
-    ensures names { OnOk result (parts.new.names ≡ parts.old.names) }
+    ensures { IfOk result (λ step.
+        Does ctx (NumStmt.Ivar i) parts.old vals.old step parts.new vals.new) }
 {
     let ivar = parts.fresh()?;
     vals.push(Value::Ivar(ivar))?;
@@ -87,10 +80,8 @@ fn ivar(parts: &mut Parts, ctx: Ctx, vals: &mut Vals, i: usize) -> Result<Step, 
 }
 
 fn never(parts: &mut Parts, ctx: Ctx, vals: &mut Vals, r: usize) -> Result<Step, NoMemory>
-    ensures takes { IfOk result (λ step.
-        Takes (effect_of ctx (NumStmt.Never r) parts.old.plain (named parts.old vals.old))
-        step parts.old parts.new vals.new) }
-    ensures names { OnOk result (parts.new.names ≡ parts.old.names) }
+    ensures { IfOk result (λ step.
+        Does ctx (NumStmt.Never r) parts.old vals.old step parts.new vals.new) }
 {
     let result = parts.fresh()?;
     vals.push(Value::Def(result))?;
@@ -100,10 +91,8 @@ fn never(parts: &mut Parts, ctx: Ctx, vals: &mut Vals, r: usize) -> Result<Step,
 fn fill(parts: &mut Parts, ctx: Ctx, vals: &Vals, i: usize, a: NumAtom) -> Result<Step, NoMemory>
     requires deferred { IsDeferredAt parts.old.plain (named parts.old vals.now) i }
     requires number { IsNumAt (named parts.old vals.now) a }
-    ensures takes { IfOk result (λ step.
-        Takes (effect_of ctx (NumStmt.Fill i a) parts.old.plain (named parts.old vals.now))
-        step parts.old parts.new vals.now) }
-    ensures names { OnOk result (parts.new.names ≡ parts.old.names) }
+    ensures { IfOk result (λ step.
+        Does ctx (NumStmt.Fill i a) parts.old vals.now step parts.new vals.now) }
 {
     let ivar = parts.deferred_at(vals, i);
     let num = parts.number_at(vals, a);
@@ -117,10 +106,8 @@ fn fill(parts: &mut Parts, ctx: Ctx, vals: &Vals, i: usize, a: NumAtom) -> Resul
 fn offer(parts: &mut Parts, ctx: Ctx, vals: &Vals, i: usize, a: NumAtom) -> Result<Step, NoMemory>
     requires deferred { IsDeferredAt parts.old.plain (named parts.old vals.now) i }
     requires number { IsNumAt (named parts.old vals.now) a }
-    ensures takes { IfOk result (λ step.
-        Takes (effect_of ctx (NumStmt.Offer i a) parts.old.plain (named parts.old vals.now))
-        step parts.old parts.new vals.now) }
-    ensures names { OnOk result (parts.new.names ≡ parts.old.names) }
+    ensures { IfOk result (λ step.
+        Does ctx (NumStmt.Offer i a) parts.old vals.now step parts.new vals.now) }
 {
     let ivar = parts.deferred_at(vals, i);
     let num = parts.number_at(vals, a);
@@ -129,7 +116,6 @@ fn offer(parts: &mut Parts, ctx: Ctx, vals: &Vals, i: usize, a: NumAtom) -> Resu
 }
 
 fn upon(
-    alloc: Global,
     parts: &mut Parts,
     ctx: Ctx,
     vals: &Vals,
@@ -139,13 +125,11 @@ fn upon(
 ) -> Result<Step, NoMemory>
     requires deferred { IsDeferredAt parts.old.plain (named parts.old vals.now) d }
     requires args { AreBound (named parts.old vals.now) args.now }
-    ensures takes { IfOk result (λ step.
-        Takes (effect_of ctx (NumStmt.Upon d proc args.now) parts.old.plain
-        (named parts.old vals.now)) step parts.old parts.new vals.now) }
-    ensures names { OnOk result (parts.new.names ≡ parts.old.names) }
+    ensures { IfOk result (λ step.
+        Does ctx (NumStmt.Upon d proc args.now) parts.old vals.now step parts.new vals.now) }
 {
     let ivar = parts.deferred_at(vals, d);
-    let vals = parts.args_at(alloc, vals, args)?;
+    let vals = parts.args_at(vals, args)?;
     parts.register(
         ivar,
         ctx,
@@ -159,7 +143,6 @@ fn upon(
 }
 
 fn bind(
-    alloc: Global,
     parts: &mut Parts,
     ctx: Ctx,
     vals: &mut Vals,
@@ -170,13 +153,11 @@ fn bind(
 ) -> Result<Step, NoMemory>
     requires deferred { IsDeferredAt parts.old.plain (named parts.old vals.old) d }
     requires args { AreBound (named parts.old vals.old) args.now }
-    ensures takes { IfOk result (λ step.
-        Takes (effect_of ctx (NumStmt.Bind r d proc args.now) parts.old.plain
-        (named parts.old vals.old)) step parts.old parts.new vals.new) }
-    ensures names { OnOk result (parts.new.names ≡ parts.old.names) }
+    ensures { IfOk result (λ step.
+        Does ctx (NumStmt.Bind r d proc args.now) parts.old vals.old step parts.new vals.new) }
 {
     let ivar = parts.deferred_at(vals, d);
-    let values = parts.args_at(alloc, vals, args)?;
+    let values = parts.args_at(vals, args)?;
     let result = parts.fresh()?;
     parts.register(
         ivar,
@@ -193,7 +174,6 @@ fn bind(
 
 /// A job that calls a procedure, of low priority or not.
 fn call(
-    alloc: Global,
     parts: &mut Parts,
     ctx: Ctx,
     vals: &Vals,
@@ -201,12 +181,11 @@ fn call(
     args: &NumArgs,
 ) -> Result<Step, NoMemory>
     requires { AreBound (named parts.old vals.now) args.now }
-    ensures takes { IfOk result (λ step.
+    ensures { IfOk result (λ step.
         Takes (Goes (called ctx proc (args_of (named parts.old vals.now) args.now) Ret.Drop
         parts.old.plain) (named parts.old vals.now)) step parts.old parts.new vals.now) }
-    ensures names { OnOk result (parts.new.names ≡ parts.old.names) }
 {
-    let vals = parts.args_at(alloc, vals, args)?;
+    let vals = parts.args_at(vals, args)?;
     let frame = Frame::Call {
         proc,
         vals,
@@ -218,37 +197,30 @@ fn call(
 
 fn raise(parts: &mut Parts, ctx: Ctx, vals: &Vals, a: NumAtom) -> Result<Step, NoMemory>
     requires { IsNumAt (named parts.old vals.now) a }
-    ensures takes { IfOk result (λ step.
-        Takes (effect_of ctx (NumStmt.Raise a) parts.old.plain (named parts.old vals.now))
-        step parts.old parts.new vals.now) }
-    ensures names { OnOk result (parts.new.names ≡ parts.old.names) }
+    ensures { IfOk result (λ step.
+        Does ctx (NumStmt.Raise a) parts.old vals.now step parts.new vals.now) }
 {
     Ok(Step::Raises(parts.number_at(vals, a)))
 }
 
 fn ret(parts: &mut Parts, ctx: Ctx, vals: &Vals, a: NumAtom) -> Result<Step, NoMemory>
     requires { IsBound (length (named parts.old vals.now)) a }
-    ensures takes { IfOk result (λ step.
-        Takes (effect_of ctx (NumStmt.Ret a) parts.old.plain (named parts.old vals.now))
-        step parts.old parts.new vals.now) }
-    ensures names { OnOk result (parts.new.names ≡ parts.old.names) }
+    ensures { IfOk result (λ step.
+        Does ctx (NumStmt.Ret a) parts.old vals.now step parts.new vals.now) }
 {
     Ok(Step::Returns(parts.value_at(vals, a)))
 }
 
 /// One statement of a job.
 pub fn run_statement(
-    alloc: Global,
     parts: &mut Parts,
     ctx: Ctx,
     stmt: &NumStmt,
     vals: &mut Vals,
 ) -> Result<Step, NoMemory>
     requires { IsReady parts.old.plain (named parts.old vals.old) stmt.now }
-    ensures takes { IfOk result (λ step.
-        Takes (effect_of ctx stmt.now parts.old.plain (named parts.old vals.old))
-        step parts.old parts.new vals.new) }
-    ensures names { OnOk result (parts.new.names ≡ parts.old.names) }
+    ensures { IfOk result (λ step.
+        Does ctx stmt.now parts.old vals.old step parts.new vals.new) }
 {
     match stmt {
         NumStmt::Set { x, a, op, b } => set(parts, ctx, vals, *x, *a, *op, *b),
@@ -256,14 +228,12 @@ pub fn run_statement(
         NumStmt::Ivar { i } => ivar(parts, ctx, vals, *i),
         NumStmt::Fill { i, a } => fill(parts, ctx, vals, *i, *a),
         NumStmt::Offer { i, a } => offer(parts, ctx, vals, *i, *a),
-        NumStmt::Upon { d, proc, args } => upon(alloc, parts, ctx, vals, *d, *proc, args),
-        NumStmt::Bind { r, d, proc, args } => { bind(alloc, parts, ctx, vals, *r, *d, *proc, args) }
+        NumStmt::Upon { d, proc, args } => upon(parts, ctx, vals, *d, *proc, args),
+        NumStmt::Bind { r, d, proc, args } => { bind(parts, ctx, vals, *r, *d, *proc, args) }
         NumStmt::Sched { proc, args } => {
-            call(alloc, parts, Ctx { low: false, ..ctx }, vals, *proc, args)
+            call(parts, Ctx { low: false, ..ctx }, vals, *proc, args)
         }
-        NumStmt::Low { proc, args } => {
-            call(alloc, parts, Ctx { low: true, ..ctx }, vals, *proc, args)
-        }
+        NumStmt::Low { proc, args } => { call(parts, Ctx { low: true, ..ctx }, vals, *proc, args) }
         NumStmt::Never { r } => never(parts, ctx, vals, *r),
         NumStmt::Raise { a } => raise(parts, ctx, vals, *a),
         NumStmt::Ret { a } => ret(parts, ctx, vals, *a),

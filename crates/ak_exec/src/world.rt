@@ -11,7 +11,6 @@ ghost use Rattle.ak_exec.specs.Steps.{Ends};
 ghost use Rattle.ak_exec.specs.Worlds.{with_pick, with_state, first_state, ServesAskers, RunsJob};
 
 use crate::job::run_job;
-use crate::parts::Parts;
 use ak_base::list::{Items, NoMemory};
 use ak_base::number::{Ctx, JobNo, MonNo};
 use ak_frames::frame::{Frame, Ret, Task};
@@ -19,6 +18,7 @@ use ak_labor::config::Config;
 use ak_machine::flow::Flow;
 use ak_program::program::Program;
 use ak_rings::job::Job;
+use ak_state::parts::Parts;
 use ak_trace::entry::{Ending, Entry, Trace};
 use std::alloc::Global;
 use std::marker::Model;
@@ -139,7 +139,7 @@ pub fn run_frame(world: &mut World) -> Result<Flow, NoMemory>
     let Some(job) = world.picked.take() else {
         unreachable!()
     };
-    match run_job(world.alloc, &world.program, &mut world.parts, job) {
+    match run_job(&world.program, &mut world.parts, job) {
         Ok(flow) => Ok(flow),
         Err(e) => {
             world.parts = Parts::make(world.alloc, world.config.limit, world.config.askers);

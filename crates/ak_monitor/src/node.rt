@@ -9,6 +9,7 @@ use ak_base::number::{Ctx, IvarNo, MonNo};
 use std::alloc::Global;
 use std::collections::VecDeque;
 use std::marker::Model;
+use std::mem;
 
 /// A monitor: its parent, whether it is detached, its handlers, each with the context of its registration, and the
 /// deferreds that wait for its next error, both oldest first.
@@ -100,6 +101,14 @@ impl<H> Node<H> {
         ensures rest { self.new ≡ record self.old { next_errors = rest_of self.old.next_errors } }
     {
         self.next_errors.pop_front()
+    }
+
+    /// Takes all deferreds, the oldest first; none waits any more. It takes no memory.
+    pub fn take_next_errors(&mut self, alloc: Global) -> VecDeque<IvarNo>
+        ensures all { result.items ≡ self.old.next_errors }
+        ensures none { self.new ≡ record self.old { next_errors = [] } }
+    {
+        mem::replace(&mut self.next_errors, VecDeque::new(alloc))
     }
 
     /// The handlers, oldest first.

@@ -9,7 +9,8 @@ use crate::node::Node;
 use crate::route::Route;
 use ak_base::list::NoMemory;
 use ak_base::number::{Ctx, IvarNo, MonNo};
-use std::alloc::Global;
+use std::alloc::{AllocError, Global};
+use std::collections::VecDeque;
 use std::marker::Model;
 
 /// The monitors of a run: each but the root, 0, lies below an older one. Contracts see the list of them, each with its
@@ -49,24 +50,35 @@ impl<H> Tree<H> {
         Ok(Tree { monitors, alloc })
     }
 
-    /// Puts a monitor below one that exists, and gives its number: how many monitors there were, which are fewer than
-    /// 4,294,967,295.
+    /// Puts a monitor below one that exists, and gives its number: how many monitors there were.
     ///
     /// # Errors
     ///
-    /// `NoMemory`. The monitors are then as before.
+    /// `NoMemory`, also where no number of 32 bits is left. The monitors are then as before.
     pub fn child(&mut self, parent: MonNo) -> Result<MonNo, NoMemory>
     where
         H: Drop,
         requires exists { parent < length self.old }
-        requires numbers { length self.old < 2 ^ 32 - 1 }
         ensures number { IfOk result (λ m. m ≡ length self.old) }
         ensures ok { OnOk result (self.new ≡ plain.with_child parent self.old) }
         ensures err { OnErr result (self.new ≡ self.old) }
     {
+        if self.monitors.len() >= u32::MAX as usize {
+            return Err(AllocError);
+        }
         let m = MonNo::new(self.monitors.len() as u32);
         self.monitors.push(Node::new(self.alloc, parent))?;
         Ok(m)
+    }
+
+    /// The root alone again: the other monitors are gone. It takes no memory.
+    pub fn reset(&mut self)
+    where
+        H: Drop,
+        ensures { self.new ≡ plain.root_alone }
+    {
+        self.monitors.truncate(1);
+        self.monitors[0] = Node::new(self.alloc, MonNo::new(0));
     }
 
     /// The parent of a monitor that exists: `None` exactly for the root, 0.
@@ -152,6 +164,24 @@ impl<H> Tree<H> {
         ensures rest { self.new ≡ plain.next_error_taken m self.old }
     {
         self.monitors[m.number() as usize].take_next_error()
+    }
+
+    /// Takes all deferreds that wait for the next error of a monitor that exists, the oldest first; none waits any more.
+    /// It takes no memory.
+    pub fn take_next_errors(&mut self, m: MonNo) -> VecDeque<IvarNo>
+        requires { m < length self.old }
+        ensures all { result.items ≡ (plain.monitor_in self.old m).next_errors }
+        ensures none { self.new ≡ plain.without_next_errors m self.old }
+    {
+        self.monitors[m.number() as usize].take_next_errors(self.alloc)
+    }
+
+    /// The handlers of a monitor that exists, oldest first, each with its context.
+    pub fn handlers(&self, m: MonNo) -> &[(Ctx, H)]
+        requires { m < length self.now }
+        ensures { result.now ≡ (plain.monitor_in self.now m).handlers }
+    {
+        self.monitors[m.number() as usize].handlers()
     }
 
     /// Lends the `k`-th handler from 0 of a monitor that exists, in order of registration, with its context: `None`

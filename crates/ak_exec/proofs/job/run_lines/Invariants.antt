@@ -2,7 +2,7 @@ use Rattle.std.proofs.Common.{◌≡◌, drop}
 use Rattle.ak_cells.specs.Names.{name_in}
 use Rattle.ak_machine.specs.Job.{run_lines}
 use Rattle.ak_machine.specs.Mapped.{ret_mapped}
-use Rattle.ak_exec.specs.Ready.{named}
+use Rattle.ak_state.specs.Reads.{named}
 use Rattle.ak_exec.specs.Fits.{IsUnderWay}
 use Rattle.ak_holders.specs.Returns.{LinesReturn}
 use Rattle.ak_exec.proofs.job.run_lines.Given as goal
@@ -11,9 +11,9 @@ use Rattle.ak_exec.proofs.job.run_lines.Given as goal
 abbrev pub invariant-loop-k : goal.invariant-loop-k
 invariant-loop-k l =
     record {
-      way : IsUnderWay l.program.procs l.parts.plain (named l.parts l.vals) l.ctx (ret_mapped (name_in l.parts.names) l.ret) (drop l.k l.lines);
-      returns : LinesReturn l.ctx (ret_mapped (name_in l.parts.names) l.ret) (drop l.k l.lines) l.parts.plain (named l.parts l.vals);
-      runs : run_lines l.ctx (ret_mapped (name_in l.initial.parts.names) l.ret) l.lines l.initial.parts.plain
-          (named l.initial.parts l.initial.vals) ≡ run_lines l.ctx (ret_mapped (name_in l.parts.names) l.ret) (drop l.k l.lines) l.parts.plain
+      way : IsUnderWay l.program.procs l.parts.plain (named l.parts l.vals) l.job.ctx (ret_mapped (name_in l.parts.names) l.job.ret) (drop l.k l.lines);
+      returns : LinesReturn l.job.ctx (ret_mapped (name_in l.parts.names) l.job.ret) (drop l.k l.lines) l.parts.plain (named l.parts l.vals);
+      runs : run_lines l.job.ctx (ret_mapped (name_in l.initial.parts.names) l.job.ret) l.lines l.initial.parts.plain
+          (named l.initial.parts l.initial.vals) ≡ run_lines l.job.ctx (ret_mapped (name_in l.parts.names) l.job.ret) (drop l.k l.lines) l.parts.plain
           (named l.parts l.vals);
     }

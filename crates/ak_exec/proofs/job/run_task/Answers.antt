@@ -1,5 +1,5 @@
 use Rattle.ak_machine.specs.Job.{value_or_zero}
-use Rattle.ak_exec.specs.Ready.{named}
+use Rattle.ak_state.specs.Reads.{named}
 use Rattle.ak_exec.proofs.Way.{value_call}
 use Rattle.ak_exec.proofs.job.run_task.Goals as goal
 

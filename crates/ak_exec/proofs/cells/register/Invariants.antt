@@ -1,4 +1,0 @@
-use Rattle.ak_exec.proofs.cells.register.Given as goal
-
-abbrev pub ghosts-register_by : goal.ghosts-register_by
-ghosts-register_by a = record { name = a.blank.name; parts = a.blank.parts }

@@ -1,8 +1,0 @@
-use Rattle.ak_exec.proofs.Stands.{seen_enqueue}
-use Rattle.ak_exec.proofs.parts.Parts.enqueue.Goals as goal
-
-pub returns : goal.returns
-returns c =
-    rw (← c.self.view_is)
-    (seen_enqueue c.self.inside.cells.named c.self.inside.queues.queues c.push_job.new.queues.queues c.self.inside.trace c.push_job.new.trace
-    c.self.inside.left c.args.ctx c.args.task c.in_ok-push_job.ensures)

@@ -1,0 +1,3 @@
+mod Stands
+mod Locals
+mod Picks

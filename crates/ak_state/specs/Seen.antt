@@ -1,0 +1,59 @@
+-- What the parts of the scheduler stand for: the plain state, with the surviving name in place of each ivar's number.
+use Rattle.std.specs.Prelude.{ℕ, ℤ, ◌≡◌, List, [], length}
+use Rattle.ak_rings.specs.Queues.{Queues, picked_from}
+use Rattle.ak_cells.specs.declared.registration.Woken.{Woken}
+use Rattle.ak_cells.specs.Names.{name_in, trimmed}
+use Rattle.ak_cells.specs.Rooms.{NamedCells}
+use Rattle.ak_frames.specs.declared.frame.Frame.{Frame}
+use Rattle.ak_frames.specs.declared.frame.Task.{Task}
+use Rattle.ak_trace.specs.declared.entry.Entry.{Entry}
+use Rattle.ak_trace.specs.declared.entry.Entry.TheVariants as entry
+use Rattle.ak_trace.specs.declared.entry.Ending.TheVariants as ending
+use Rattle.ak_machine.specs.State.{State, initial_state}
+use Rattle.ak_machine.specs.Deferred.{noting, enqueue, woken_task}
+use Rattle.ak_machine.specs.Mapped.{state_named}
+
+-- the state, and the surviving name of each number
+pub record Seen : Type 0 where
+  pub plain : State
+  pub names : List ℕ
+
+-- the machine's other lists, with how many askers are left; nothing is in those that are not built
+abbrev pub other_lists : ℕ → State
+other_lists left = initial_state 0 left
+
+-- the parts, with the numbers that they were given, beside the other lists
+abbrev pub raw_state : NamedCells Frame → Queues Task → List Entry → State → State
+raw_state cells queues trace lists = record lists { cells = cells.cells; queues = queues; trace = trace }
+
+abbrev pub seen : NamedCells Frame → Queues Task → List Entry → State → Seen
+seen cells queues trace lists =
+    record {
+      plain = state_named (name_in (trimmed cells.names)) (raw_state cells queues trace lists);
+      names = trimmed cells.names;
+    }
+
+-- each ivar has a name, and no handler is woken
+pub record IsKept (cells : NamedCells Frame) : Type 0 where
+  pub named : length cells.names ≡ length cells.cells.ivars
+  pub unwoken : cells.woken ≡ []
+
+-- a change of the state alone
+abbrev pub doing : (State → State) → Seen → Seen
+doing f s = record s { plain = f s.plain }
+
+-- a woken handler is enqueued
+abbrev pub enqueued_for : State → Woken Frame → State
+enqueued_for s w = enqueue w.ctx (woken_task w.frame w.num) s
+
+-- the state with these jobs and this trace
+abbrev pub with_jobs : Queues Task → List Entry → State → State
+with_jobs queues trace s = record s { queues = queues; trace = trace }
+
+-- an error at the root, which nobody catches
+abbrev pub root_error : ℤ → State → State
+root_error num s = noting (entry.End ending.Unhandled) (noting (entry.Unhandled num) (noting (entry.Error num 0) s))
+
+-- the next job has left its queue
+abbrev pub without_pick : State → State
+without_pick s = record s { queues = picked_from s.queues }

@@ -1,0 +1,6 @@
+//! The scheduler's state: what its parts hold together, and each change that a job makes of it.
+#![tactic(auto)]
+
+mod cells;
+mod local;
+pub mod parts;

@@ -1,0 +1,42 @@
+//! Values of locals. What a statement reads is there and of the right kind, since the program is sound.
+
+ghost use Rattle.std.specs.Prelude.{◌≡◌, ◌<◌, length};
+ghost use Rattle.ak_machine.specs.Effect.{local, number_of, name_of};
+ghost use Rattle.ak_state.specs.Reads.{IsNum, IsName};
+
+use ak_base::number::{IvarNo, Num};
+use ak_frames::value::{Vals, Value};
+
+/// The value of a local.
+pub fn local_at(vals: &Vals, k: usize) -> Value
+    requires { k < length vals.now }
+    ensures { result ≡ local vals.now k }
+{
+    match vals.get(k) {
+        Some(value) => *value,
+        None => unreachable!(),
+    }
+}
+
+/// The number that a value is.
+pub fn num_of(value: Value) -> Num
+    requires { IsNum value }
+    ensures { result ≡ number_of value }
+{
+    match value {
+        Value::Num(num) => num,
+        _ => unreachable!(),
+    }
+}
+
+/// The ivar that a value names.
+pub fn ivar_of(value: Value) -> IvarNo
+    requires { IsName value }
+    ensures { result ≡ name_of value }
+{
+    match value {
+        Value::Ivar(i) => i,
+        Value::Def(i) => i,
+        _ => unreachable!(),
+    }
+}

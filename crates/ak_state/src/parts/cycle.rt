@@ -1,0 +1,86 @@
+//! What a cycle needs of the state: the pick, what is left to do, and the begin.
+
+ghost use Rattle.std.specs.Prelude.{◌≡◌, None, OnOk, OnErr, false, true, not};
+ghost use Rattle.ak_cells.specs.Names.{name_in};
+ghost use Rattle.std.specs.Option.{option_map};
+ghost use Rattle.ak_rings.specs.Queues.{pick_of, has_pick};
+ghost use Rattle.ak_machine.specs.Cycle.{cycle_begun, has_more, is_stuck, is_quiet, with_left};
+ghost use Rattle.ak_base.specs.Lists.{is_empty_list};
+ghost use Rattle.ak_machine.specs.Mapped.{job_mapped};
+ghost use Rattle.ak_state.specs.Seen.{doing, without_pick};
+
+use crate::parts::Parts;
+use ak_base::list::NoMemory;
+use ak_frames::frame::Task;
+use ak_rings::job::Job;
+use ak_trace::entry::Entry;
+
+impl Parts {
+    /// Whether there is a job to pick.
+    pub fn can_pick(&self) -> bool
+        ensures { result ≡ has_pick self.now.plain.queues }
+    {
+        self.queues.can_pick()
+    }
+
+    /// Takes the next job out of its queue: `None` exactly where there is none.
+    pub fn pick(&mut self) -> Option<Job<Task>>
+        ensures job { option_map (job_mapped (name_in self.old.names)) result
+            ≡ pick_of self.old.plain.queues }
+        ensures parts { self.new ≡ doing without_pick self.old }
+    {
+        self.queues.pick()
+    }
+
+    /// Whether a job waits. No yield is pending and no alarm is due, as neither is built.
+    pub fn has_more(&self) -> bool
+        ensures { result ≡ has_more self.now.plain }
+    {
+        !self.queues.is_empty()
+    }
+
+    /// Whether a work is outstanding. None is, as works are not built.
+    pub fn has_work(&self) -> bool
+        ensures works { result ≡ not (is_empty_list self.now.plain.works) }
+        ensures none { result ≡ false }
+    {
+        let _trace = &self.trace;
+        false
+    }
+
+    /// Whether a work is outstanding, every such work is general, and at least so many helpers are granted and not
+    /// ended. No work is outstanding, as works are not built.
+    pub fn is_stuck(&self, threads: u32) -> bool
+        ensures { result ≡ is_stuck threads self.now.plain }
+    {
+        let _trace = &self.trace;
+        false
+    }
+
+    /// So many askers are left.
+    pub fn set_left(&mut self, left: u32)
+        ensures { self.new ≡ doing (with_left left) self.old }
+    {
+        self.left = left;
+    }
+
+    /// Whether every asker that is left waits for an answer. No request has arrived, as requests are not built.
+    pub fn is_quiet(&self) -> bool
+        ensures quiet { result ≡ is_quiet self.now.plain }
+        ensures none_left { self.now.plain.left ≡ 0 → result ≡ true }
+    {
+        self.left == 0
+    }
+
+    /// A cycle begins. No yield is pending and no alarm is due, as neither is built; so there is a job to pick then
+    /// exactly where something was left to do.
+    pub fn begin_cycle(&mut self) -> Result<(), NoMemory>
+        ensures begun { OnOk result (self.new ≡ doing cycle_begun self.old) }
+        ensures picks { OnOk result (has_pick self.new.plain.queues ≡ has_more self.old.plain) }
+        ensures err { OnErr result (self.new ≡ self.old) }
+    {
+        self.trace.push(Entry::Cycle)?;
+        self.queues.reset();
+        Ok(())
+    }
+}

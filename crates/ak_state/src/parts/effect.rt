@@ -1,0 +1,63 @@
+//! The values that a statement reads.
+
+ghost use Rattle.std.specs.Prelude.{◌≡◌, ◌<◌, length, IfOk};
+ghost use Rattle.ak_cells.specs.Names.{name_in};
+ghost use Rattle.ak_machine.specs.Mapped.{value_mapped, values_mapped};
+ghost use Rattle.ak_machine.specs.Effect.{value_of, number_in, name_in as name_at, args_of};
+ghost use Rattle.ak_state.specs.Reads.{named, IsNumAt, IsDeferredAt, IsBound, AreBound};
+
+use crate::local::{ivar_of, local_at, num_of};
+use crate::parts::Parts;
+use ak_base::list::{Items, NoMemory};
+use ak_base::number::{IvarNo, Num};
+use ak_frames::value::{Vals, Value};
+use ak_program::statement::{NumArgs, NumAtom};
+
+impl Parts {
+    /// The number that an atom is.
+    pub fn number_at(&self, vals: &Vals, atom: NumAtom) -> Num
+        requires { IsNumAt (named self.now vals.now) atom }
+        ensures { result ≡ number_in (named self.now vals.now) atom }
+    {
+        match atom {
+            NumAtom::Literal(num) => num,
+            NumAtom::Local(k) => num_of(local_at(vals, k)),
+        }
+    }
+
+    /// The ivar that a local names.
+    pub fn deferred_at(&self, vals: &Vals, k: usize) -> IvarNo
+        requires { IsDeferredAt self.now.plain (named self.now vals.now) k }
+        ensures name { name_in self.now.names result ≡ name_at (named self.now vals.now) k }
+        ensures drawn { result < length self.now.plain.cells.ivars }
+    {
+        let i = ivar_of(local_at(vals, k));
+        self.check_drawn(i);
+        i
+    }
+
+    /// The value of an atom.
+    pub fn value_at(&self, vals: &Vals, atom: NumAtom) -> Value
+        requires { IsBound (length (named self.now vals.now)) atom }
+        ensures { value_mapped (name_in self.now.names) result
+            ≡ value_of (named self.now vals.now) atom }
+    {
+        match atom {
+            NumAtom::Literal(num) => Value::Num(num),
+            NumAtom::Local(k) => local_at(vals, k),
+        }
+    }
+
+    /// The values of arguments, in a list with room for one more.
+    pub fn args_at(&self, vals: &Vals, args: &NumArgs) -> Result<Vals, NoMemory>
+        requires { AreBound (named self.now vals.now) args.now }
+        ensures { IfOk result (λ values. values_mapped (name_in self.now.names) values
+            ≡ args_of (named self.now vals.now) args.now) }
+    {
+        let mut values = Vec::with_capacity(self.alloc, args.len() + 1)?;
+        for atom in args.as_slice() {
+            values.push(self.value_at(vals, *atom))?;
+        }
+        Ok(Items::from_vec(values))
+    }
+}
