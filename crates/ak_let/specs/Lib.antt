@@ -1,0 +1,6 @@
+pub mod Eval
+pub mod Compile
+pub mod Correct
+pub mod Worked
+pub mod Meaning
+pub mod Rows
