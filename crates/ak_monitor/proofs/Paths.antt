@@ -46,8 +46,13 @@ path-here ms m h =
     ∙ path_down-older (reverse (drop (m + 1) ms)) (monitor_in ms m ∷ reverse (take m ms)) m (omega (arith, length-older ms m h))
     ∙ path_down-here (monitor_in ms m) (reverse (take m ms)) m (length-older ms m h)
 
+-- below an older monitor
+pub path_below : {H : Type 0} (ms : List (Monitor H)) (m : ℕ) → m < length ms → (monitor_in ms m).parent < m
+    → path ms m ≡ m ∷ path ms (monitor_in ms m).parent
+path_below ms m h k = path-here ms m h ∙ ap (λ r. m ∷ r) (sym (path-older ms m (monitor_in ms m).parent h k))
+
 pub path_above : {H : Type 0} (ms : List (Monitor H)) (m : ℕ) → IsTree ms → m < length ms → 0 < m → path ms m ≡ m ∷ path ms (monitor_in ms m).parent
-path_above ms m t h k = path-here ms m h ∙ ap (λ r. m ∷ r) (sym (path-older ms m (monitor_in ms m).parent h (t.older m h k)))
+path_above ms m t h k = path_below ms m h (t.older m h k)
 
 pub path_root : {H : Type 0} (ms : List (Monitor H)) (m : ℕ) → m < length ms → m ≡ 0 → path ms m ≡ m ∷ []
 path_root ms m h e = path-here ms m h ∙ ap (λ k. m ∷ path_down (reverse (take k ms)) (monitor_in ms m).parent) e
