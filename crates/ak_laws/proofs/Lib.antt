@@ -11,3 +11,9 @@ pub mod Served
 pub mod Working
 pub mod Worked
 pub mod Laws
+pub mod Routes
+pub mod Scopes
+pub mod Routing
+pub mod RoutingParts
+pub mod RoutingLines
+pub mod RoutingRun

@@ -5,6 +5,7 @@ use Rattle.ak_laws.specs.Ends.{EndsOnce}
 use Rattle.ak_holders.specs.Fills.{FillsOnce}
 use Rattle.ak_laws.specs.Jobs.{JobsInOrder, CyclesAreLimited}
 use Rattle.ak_laws.specs.Requests.{RequestsAreServed}
+use Rattle.ak_laws.specs.Errors.{ErrorsGoUp}
 
 -- a trace obeys them, where at most so many jobs of each priority run in a cycle
 pub record ObeysLaws (limit : ℕ) (trace : List Entry) : Type 0 where
@@ -18,3 +19,5 @@ pub record ObeysLaws (limit : ℕ) (trace : List Entry) : Type 0 where
   pub fills_once : FillsOnce trace
   -- requests are numbered as they arrive, and each is answered at most once, with the number of its deferred
   pub requests_are_served : RequestsAreServed trace
+  -- each error is caught at the first monitor of its path that is detached there, and where there is none the run ends by it
+  pub errors_go_up : ErrorsGoUp trace

@@ -6,3 +6,4 @@ pub mod Order
 pub mod Places
 pub mod Requests
 pub mod Works
+pub mod Traces

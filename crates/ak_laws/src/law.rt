@@ -11,6 +11,7 @@ ghost use Rattle.ak_laws.specs.Order.{IsInOrder};
 ghost use Rattle.ak_laws.specs.Jobs.{JobsInOrder, CyclesAreLimited};
 ghost use Rattle.ak_laws.specs.Requests.{RequestsAreServed};
 ghost use Rattle.ak_laws.specs.Works.{BringsValues, WorksArriveOnce};
+ghost use Rattle.ak_laws.specs.Errors.{ErrorsGoUp};
 ghost use Rattle.ak_laws.specs.Laws.{ObeysLaws};
 
 use ak_holders::law::fills_once;
@@ -70,8 +71,18 @@ pub fn works_arrive_once()
         → WorksArriveOnce (run_of program config replies).trace }
 {}
 
+/// In every run that has ended, of a sound program, each error is caught at once, at the first monitor that is detached there: the
+/// one in which it was raised, its parent, and so on to the root. Where none of them is detached, the error is unhandled and the run
+/// ends by it. Nothing else is caught or unhandled, and only what was just caught is dropped. From Async's documentation of
+/// monitors in outline; that the path begins with the monitor of the error, and what becomes of later errors, is own.
+pub fn errors_go_up()
+    ensures { (program : NumProgram) → ProgramIsSound program.procs program.main program.ask
+        → (config : Config) (replies : List Reply) → (run_of program config replies).outcome ≡ HasEnded
+        → ErrorsGoUp (run_of program config replies).trace }
+{}
+
 /// The trace of every run that has ended, of a sound program, obeys the laws that no reply can break: it ends once, its jobs are in
-/// order and within the limits, each ivar is filled at most once, and its requests are served. Own.
+/// order and within the limits, each ivar is filled at most once, its requests are served, and its errors go up. Own.
 pub fn obeys_laws()
     ensures { (program : NumProgram) → ProgramIsSound program.procs program.main program.ask
         → (config : Config) (replies : List Reply) → (run_of program config replies).outcome ≡ HasEnded
