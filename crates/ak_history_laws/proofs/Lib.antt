@@ -8,5 +8,4 @@ pub mod Helpers
 pub mod Owed
 pub mod Once
 pub mod Out
-pub mod Quiet
 pub mod Requests

@@ -150,12 +150,6 @@ handed_stay xs ys h = map_stays handed_in handed_by xs ys h
 pub answers_stay : (xs ys : List Event) → Each IsNotByScheduler ys → answers (xs ++ ys) ≡ answers xs
 answers_stay xs ys h = map_stays answered_in answers_by xs ys h
 
-pub drained_stay : (xs ys : List Event) → Each IsNotByScheduler ys → flat_map drained_in (xs ++ ys) ≡ flat_map drained_in xs
-drained_stay xs ys h =
-    flat_map-append drained_in xs ys
-    ∙ (ap (λ l. flat_map drained_in xs ++ l) (of_others (λ l. flat_map drained_in l ≡ []) refl (λ t id l k. k) (λ t id o l k. k) (λ q a n l k. k) (λ a l k. k) ys h)
-    ∙ append-nil (flat_map drained_in xs))
-
 pub fetched_stay : (xs ys : List Event) → Each IsNotByScheduler ys → flat_map fetched_in (xs ++ ys) ≡ flat_map fetched_in xs
 fetched_stay xs ys h =
     flat_map-append fetched_in xs ys

@@ -1,22 +1,30 @@
 -- What each call of a hub leaves, by the pass before it and after it. Own; after Async's thread pool.
-use Rattle.std.specs.Prelude.{ℕ, ◌≡◌, ◌≢◌, ◌⊎◌, Bool, List, [], ◌∷◌, count_by, is_some}
+use Rattle.std.specs.Prelude.{ℕ, ◌<◌, ◌≡◌, ◌≢◌, ◌⊎◌, Bool, true, List, [], ◌∷◌, count_by, is_some}
 use Rattle.ak_labor.specs.Arrived.{Arrived}
-use Rattle.ak_labor.specs.Waits.{outstanding}
+use Rattle.ak_labor.specs.Waits.{outstanding, left_after}
 use Rattle.ak_history.specs.declared.event.Event.{Event}
 use Rattle.ak_history.specs.declared.event.Event.TheVariants as event
-use Rattle.ak_history.specs.Events.{is_helper_new, helper_answer, owed}
+use Rattle.ak_history.specs.Events.{is_helper_new, helper_answer, owed, unfetched}
 use Rattle.ak_history.specs.Scheduler.{asks, replies}
 use Rattle.ak_pool.specs.declared.pool.Taken.{Taken}
 use Rattle.ak_pool.specs.declared.pool.Taken.TheVariants.{Got, NotYet, Closed}
-use Rattle.ak_pool.specs.Pools.{owed_pairs}
+use Rattle.ak_pool.specs.Pools.{brought, owes}
 use Rattle.ak_pool.specs.Takes.{Takes}
 use Rattle.ak_turn.specs.Entries.{events}
 use Rattle.ak_turn.specs.Seen.{PassView}
 use Rattle.ak_hub.specs.Hubs.{HubState, Gave, seen_by}
 
 -- some work is outstanding: it was handed in, and no drain has brought it
-abbrev pub SomeOutstanding : List Event → Type 0
-SomeOutstanding history = outstanding (asks history) (replies 0 history) ≢ []
+abbrev pub SomeOutstanding : ℕ → List Event → Type 0
+SomeOutstanding askers history = outstanding (asks history) (replies askers history) ≢ []
+
+-- some of so many askers had not ended when the last drain came; where none came yet, there is some asker
+abbrev pub SomeLeft : ℕ → List Event → Type 0
+SomeLeft askers history = 0 < left_after askers (replies askers history)
+
+-- there may be something to wait for: a work, or a request or the end of an asker
+abbrev pub MayOwe : ℕ → List Event → Type 0
+MayOwe askers history = SomeOutstanding askers history ⊎ SomeLeft askers history
 
 -- in one hold the pass gave this event
 abbrev pub Gives : HubState → PassView Event → Event → PassView Event → Type 0
@@ -26,12 +34,12 @@ Gives h p e q = (was : List (ℕ × Event)) × Gave h p was (e ∷ []) q
 abbrev pub GivesNothing : HubState → PassView Event → PassView Event → Type 0
 GivesNothing h p q = (was : List (ℕ × Event)) × Gave h p was [] q
 
--- in one hold the pass fetched the finished works that were not fetched, and no request, since no one asks
+-- in one hold the pass fetched the finished works and the requests that were not fetched
 abbrev pub Fetches : HubState → PassView Event → Arrived → PassView Event → Type 0
 Fetches h p into q =
     (was : List (ℕ × Event))
-    × Gave h p was (event.Drain (owed (events was)) [] ∷ []) q
-    × (into ≡ record { works = owed_pairs (events was); requests = []; left = 0 })
+    × Gave h p was (event.Drain (owed (events was)) (unfetched (events was)) ∷ []) q
+    × (into ≡ brought h.askers (events was))
 
 -- in one hold the pass asked for a helper, and was answered by the history that the hold began with
 abbrev pub AsksHelper : HubState → PassView Event → Bool → PassView Event → Type 0
@@ -40,9 +48,9 @@ AsksHelper h p granted q =
     × Gave h p was (event.HelperNew (count_by is_helper_new (seen_by p)) (helper_answer h.threads (events was)) ∷ []) q
     × (granted ≡ is_some (helper_answer h.threads (events was)))
 
--- in one hold the pass gave nothing and saw a finished work that was not fetched
+-- in one hold the pass gave nothing and saw that a drain has something to tell
 abbrev pub SeesOwed : HubState → PassView Event → PassView Event → Type 0
-SeesOwed h p q = (was : List (ℕ × Event)) × Gave h p was [] q × (owed (events was) ≢ [])
+SeesOwed h p q = (was : List (ℕ × Event)) × Gave h p was [] q × (owes (events was) ≡ true)
 
 -- the event of an answer to a thread that asks for a work
 abbrev pub starts : ℕ → Taken → List Event

@@ -33,19 +33,19 @@ module _ (h : HubState) (p q : PassView Event) (was : List (ℕ × Event)) where
       ap (count_by is_submit) gave.seen ∙ submits_behind (seen_by p) (events was) es (gave.hold.workers number)
 
   -- what was just handed in is outstanding
-  pub some_out : (id : ℕ) (work : Work) (helper : Option ℕ) → Gave h p was (event.Submit id work helper ∷ []) q → SomeOutstanding (seen_by q)
+  pub some_out : (id : ℕ) (work : Work) (helper : Option ℕ) → Gave h p was (event.Submit id work helper ∷ []) q → SomeOutstanding h.askers (seen_by q)
   some_out id work helper gave =
       let e = event.Submit id work helper in
-      let legal = legal_behind h.threads 0 [] (events was) (e ∷ []) (subst (Legal h.threads 0) gave.seen gave.legal) in
-      subst SomeOutstanding (sym gave.seen) (out_now h.threads 0 (events was) id work helper gave.hold.legal legal.0)
+      let legal = legal_behind h.threads h.askers [] (events was) (e ∷ []) (subst (Legal h.threads h.askers) gave.seen gave.legal) in
+      subst (SomeOutstanding h.askers) (sym gave.seen) (out_now h.threads h.askers (events was) id work helper gave.hold.legal legal.0)
 
   -- the work that was taken may be finished with its value
   pub may_end : (t id : ℕ) (work : Work) (outcome : Outcome) → Took h p was t (taken.Got id work) q → outcome ≡ value_of work
-      → IsLegalAfter h.threads 0 (seen_by q) (event.Finish t id outcome)
+      → IsLegalAfter h.threads h.askers (seen_by q) (event.Finish t id outcome)
   may_end t id work outcome took value =
-      subst (λ l. IsLegalAfter h.threads 0 l (event.Finish t id outcome)) (sym took.0.seen)
-      (subst (λ o. IsLegalAfter h.threads 0 (events was ++ event.Start t id ∷ []) (event.Finish t id o)) (sym value)
-      (may_finish h.threads 0 (events was) t id work took.0.hold.legal took.1.0 took.1.1))
+      subst (λ l. IsLegalAfter h.threads h.askers l (event.Finish t id outcome)) (sym took.0.seen)
+      (subst (λ o. IsLegalAfter h.threads h.askers (events was ++ event.Start t id ∷ []) (event.Finish t id o)) (sym value)
+      (may_finish h.threads h.askers (events was) t id work took.0.hold.legal took.1.0 took.1.1))
 
   -- a thread that was given nothing still runs nothing
   pub idle_on : (t : ℕ) → p.number ≡ suc t → Gave h p was [] q → is_running (seen_by p) t ≡ false → is_running (seen_by q) t ≡ false

@@ -59,7 +59,7 @@ struct Answers {
 // The first pass hands in `square 3`, the second carries it and asks once more. The first fetches and closes, and the
 // second asks again.
 fn row<R: Wait>(rt: &R, alloc: Global) -> Result<Answers, AllocError> {
-    let (hub, mut first) = Hub::make(alloc, 1)?;
+    let (hub, mut first) = Hub::make(alloc, 1, 0)?;
     let mut second = hub.pass(&mut first);
     let thread = ThreadNo::new(0);
     let work = Work {

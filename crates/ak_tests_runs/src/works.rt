@@ -44,7 +44,7 @@ pub fn hand_in<R: Wait>(
     ensures open { IsOpen (seen_by pass.new) }
     ensures few { count_by is_submit (seen_by pass.new)
         ≤ count_by is_submit (seen_by pass.old) + 1 }
-    ensures some { OnOk result (SomeOutstanding (seen_by pass.new)) }
+    ensures some { OnOk result (SomeOutstanding hub.now.askers (seen_by pass.new)) }
 {
     match hub.submit(rt, pass, work, None) {
         Ok(id) => Ok(id),
@@ -90,7 +90,7 @@ fn fetch_some<R: Wait>(
 ) -> Result<(), NoMemory>
     requires pass { IsPassOf hub.now 0 pass.old }
     requires open { IsOpen (seen_by pass.old) }
-    requires some { SomeOutstanding (seen_by pass.old) }
+    requires some { SomeOutstanding hub.now.askers (seen_by pass.old) }
     ensures pass { IsGivenBack hub.now 0 pass.old pass.new }
     ensures open { IsOpen (seen_by pass.new) }
     ensures same { count_by is_submit (seen_by pass.new) ≡ count_by is_submit (seen_by pass.old) }
@@ -195,7 +195,7 @@ pub fn serve<L: Labor + Drop, R: Threads + Wait + Sync>(
     requires hands { AreUnused L.carried threads hands.items }
     requires few { length works.now < 2 ^ 32 - 1 }
 {
-    let (hub, mut zero) = Hub::make(alloc, threads)?;
+    let (hub, mut zero) = Hub::make(alloc, threads, 0)?;
     let passes = make_passes(alloc, &hub, &mut zero, threads)?;
     let ((hands, mut passes), (arrived, zero)) = serve_all(
         rt, alloc, &hub, zero, hands, passes, works,
