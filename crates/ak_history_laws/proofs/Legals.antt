@@ -21,6 +21,11 @@ legal_behind threads askers before [] ys h = rw append-nil h
 legal_behind threads askers before (x ∷ xs) ys h =
     subst (λ l. AreLegalAfter threads askers l ys) (append_assoc before (x ∷ []) xs) (legal_behind threads askers (before ++ x ∷ []) xs ys h.1)
 
+-- the front of a legal list
+pub legal_front : (threads askers : ℕ) (before xs ys : List Event) → AreLegalAfter threads askers before (xs ++ ys) → AreLegalAfter threads askers before xs
+legal_front threads askers before [] ys h = tt
+legal_front threads askers before (x ∷ xs) ys h = (h.0, legal_front threads askers (before ++ x ∷ []) xs ys h.1)
+
 keeps_from : (threads askers : ℕ) (P : List Event → Type 0)
     → ((xs : List Event) (e : Event) → P xs → IsLegalAfter threads askers xs e → P (xs ++ e ∷ [])) → (before ys : List Event) → P before
     → AreLegalAfter threads askers before ys → P (before ++ ys)

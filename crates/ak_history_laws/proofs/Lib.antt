@@ -4,6 +4,7 @@ pub mod Workers
 pub mod Threads
 pub mod Replies
 pub mod Arrivals
+pub mod Brought
 pub mod Helpers
 pub mod Owed
 pub mod Once

@@ -1,2 +1,3 @@
 pub mod Behind
+pub mod Brought
 pub mod Once

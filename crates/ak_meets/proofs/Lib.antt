@@ -1,2 +1,3 @@
+mod Asking
 mod OneMeeting
 mod SomeMeeting

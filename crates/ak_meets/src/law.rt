@@ -1,13 +1,15 @@
 //! In how many ways a run and a history go together, and records of a program that prints a number. Each function has an empty
 //! body: its contract is the law.
 
-ghost use Rattle.std.specs.Prelude.{ℕ, ◌≡◌, ◌⊎◌, List};
+ghost use Rattle.std.specs.Prelude.{ℕ, ◌≡◌, ◌≤◌, ◌⊎◌, List, length};
 ghost use Rattle.ak_labor.specs.declared.ask.Ask.TheVariants as ask;
 ghost use Rattle.ak_history.specs.declared.event.Event.TheVariants as event;
 ghost use Rattle.ak_history.specs.declared.event.Event.{Event};
 ghost use Rattle.ak_program.specs.Programs.{NumProgram};
 ghost use Rattle.ak_labor.specs.declared.config.Config.{Config};
+ghost use Rattle.ak_labor.specs.Calls.{Reply};
 ghost use Rattle.ak_machine.specs.Run.{IsWrong};
+ghost use Rattle.ak_meets.specs.Calls.{AllFit, HasCalled};
 ghost use Rattle.ak_meets.specs.Meets.{Meeting, Meets, Agree, run_to, Yes, Stray, Short};
 ghost use Rattle.ak_meets.specs.Printing.{printing, usual, whole, closed_early, cut};
 
@@ -24,6 +26,14 @@ pub fn some_meeting()
     ensures { (program : NumProgram) (config : Config) (history : List Event)
         → ((m : Meeting) × Meets program config history m)
         ⊎ ((k : ℕ) × Agree program config history k × ((run_to program config history k).outcome ≡ IsWrong)) }
+{}
+
+/// The calls of a run are those that it wanted, one after another, so long as each reply fits. Own.
+#[tactic(auto, using(crate::proofs::Asking::has_called))]
+pub fn has_called()
+    ensures { (program : NumProgram) (config : Config) (replies : List Reply) (n : ℕ)
+        → n ≤ length replies → AllFit program config replies n
+        → HasCalled program config replies n }
 {}
 
 /// Two drains and the close are its whole record.

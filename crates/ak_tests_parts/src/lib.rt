@@ -13,6 +13,8 @@ mod pipe;
 #[cfg(test)]
 mod pool;
 #[cfg(test)]
+mod replay;
+#[cfg(test)]
 mod rings;
 #[cfg(test)]
 mod throttle;
