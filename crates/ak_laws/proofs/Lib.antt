@@ -11,6 +11,7 @@ pub mod Served
 pub mod Working
 pub mod Worked
 pub mod Laws
+pub mod PathSteps
 pub mod Routes
 pub mod Scopes
 pub mod Routing

@@ -17,7 +17,7 @@ use Rattle.ak_monitor.proofs.Paths.{path_below, path_root}
 use Rattle.ak_holders.proofs.Carry.{all_append, all_by}
 use Rattle.ak_laws.specs.Places.{EachAfter}
 use Rattle.ak_laws.specs.Errors.{detached_by, is_detached, parent_by, parent_in, new_among, path_from, path_in}
-use Rattle.ak_laws.specs.Errors.{IsUnhandled, Goes, IsError, IsRaised, IsFilling, IsHandling, GoesUp, ErrorsGoUp}
+use Rattle.ak_laws.specs.Errors.{IsUnhandled, Goes, IsError, IsUncaught, EndsIn, IsFilling, IsHandling, GoesUp, ErrorsGoUp}
 
 -- ---- lists
 index_front : {A : Type 0} (xs : List A) (y d : A) (k : ℕ) → k < length xs → slice_index_or (xs ++ y ∷ []) k d ≡ slice_index_or xs k d
@@ -93,7 +93,7 @@ none_is p [] h = refl
 none_is p (x ∷ seen) h = ap (λ b. b || list_any (λ y. y == p) seen) (ne_eqb x p (λ q. omega (arith, h.0, q))) ∙ none_is p seen h.1
 
 -- what follows a monitor on its path
-abbrev follows : ℕ → List Entry → List ℕ → ℕ → Option ℕ → List ℕ
+abbrev pub follows : ℕ → List Entry → List ℕ → ℕ → Option ℕ → List ℕ
 follows k t seen m o = elim o [ None ↦ m ∷ [] | Some p ↦ m ∷ path_from k t seen p ]
 
 module _ {H : Type 0} where
@@ -274,6 +274,7 @@ up_longer before (entry.Error e m) es fs h = goes_longer (find (is_detached befo
 up_longer before (entry.Caught m) es fs h = h
 up_longer before (entry.Unhandled e) es fs h = h
 up_longer before (entry.Rest e) es fs h = h
+up_longer before (entry.End ending.Unhandled) es fs h = h
 up_longer before x es fs h = tt
 
 up_append : (before es fs : List Entry) → EachAfter GoesUp before es → EachAfter GoesUp (before ++ es) fs → EachAfter GoesUp before (es ++ fs)
@@ -289,6 +290,7 @@ IsNoError (entry.Error e m) = ⊥
 IsNoError (entry.Caught m) = ⊥
 IsNoError (entry.Unhandled e) = ⊥
 IsNoError (entry.Rest e) = ⊥
+IsNoError (entry.End ending.Unhandled) = ⊥
 IsNoError e = Unit {0}
 
 no_error_goes : (before : List Entry) (x : Entry) (es : List Entry) → IsNoError x → GoesUp before x es
@@ -296,10 +298,11 @@ no_error_goes before (entry.Error e m) es q = absurd q
 no_error_goes before (entry.Caught m) es q = absurd q
 no_error_goes before (entry.Unhandled e) es q = absurd q
 no_error_goes before (entry.Rest e) es q = absurd q
+no_error_goes before (entry.End ending.Unhandled) es q = absurd q
 no_error_goes before x es q = tt
 
-raised_there : (t : List Entry) (e : ℤ) (m : ℕ) → IsRaised (t ++ entry.Error e m ∷ [])
-raised_there t e m = subst (λ es. MatchOption (first_of es) ⊥ IsError) (sym (reverse-append t (entry.Error e m ∷ []))) tt
+ends_in : (Is : Entry → Type 0) (t : List Entry) (x : Entry) → Is x → EndsIn Is (t ++ x ∷ [])
+ends_in Is t x h = subst (λ es. MatchOption (first_of es) ⊥ Is) (sym (reverse-append t (x ∷ []))) h
 
 pub other_goes : (t : List Entry) (x : Entry) → IsNoError x → ErrorsGoUp t → ErrorsGoUp (t ++ x ∷ [])
 other_goes t x q h = up_append [] t (x ∷ []) h (no_error_goes t x [] q, tt)
@@ -310,7 +313,7 @@ pub caught_goes : (t : List Entry) (e : ℤ) (m c : ℕ) → find (is_detached t
 caught_goes t e m c f h =
     let es : List Entry = entry.Error e m ∷ entry.Caught c ∷ []
     in subst ErrorsGoUp (sym (append_assoc t (entry.Error e m ∷ []) (entry.Caught c ∷ [])))
-    (up_append [] t es h (subst (λ o. Goes o e (entry.Caught c ∷ [])) (sym f) refl, (raised_there t e m, tt)))
+    (up_append [] t es h (subst (λ o. Goes o e (entry.Caught c ∷ [])) (sym f) refl, (ends_in IsError t (entry.Error e m) tt, tt)))
 
 -- one that nobody catches
 pub unhandled_goes : (t : List Entry) (e : ℤ) (m : ℕ) → find (is_detached t) (path_in t m) ≡ None → ErrorsGoUp t
@@ -320,7 +323,10 @@ unhandled_goes t e m f h =
     in let last : List Entry = entry.End ending.Unhandled ∷ []
     in let after : List Entry = entry.Unhandled e ∷ last
     in subst ErrorsGoUp (sym (append_assoc (t ++ one) (entry.Unhandled e ∷ []) last ∙ append_assoc t one after))
-    (up_append [] t (one ++ after) h (subst (λ o. Goes o e after) (sym f) refl, (raised_there t e m, (tt, tt))))
+    (up_append [] t (one ++ after) h (
+      subst (λ o. Goes o e after) (sym f) refl,
+      (ends_in IsError t (entry.Error e m) tt, (ends_in IsUncaught (t ++ one) (entry.Unhandled e) tt, tt)),
+    ))
 
 -- ---- behind an error that is caught
 -- next errors are filled, and then handlers act

@@ -57,7 +57,7 @@ use Rattle.ak_holders.proofs.Carry.{result_of, group_with_part, part_of_all, par
 use Rattle.ak_holders.proofs.Carry.{requests_held, left_held, PlaceIs, stepped_held, run_held, pair_have, pick_beside, beside_noted}
 use Rattle.ak_laws.specs.Errors.{ErrorsGoUp}
 use Rattle.ak_laws.proofs.Ends.{is_over}
-use Rattle.ak_laws.proofs.Routes.{root_told, other_goes}
+use Rattle.ak_laws.proofs.Routes.{root_told, IsNoError, other_goes}
 use Rattle.ak_laws.proofs.Scopes.{ValsIn, CtxIn, FrameIn, JobIn, PurposeIn, WorkIn, StateIn, nums_in}
 use Rattle.ak_laws.proofs.Routing.{Routed, Later, now, changed, noted, root_in, call_routed, fill_routed, register_routed, yields_routed}
 use Rattle.ak_laws.proofs.Routing.{alarms_routed, with_helper_routed}
@@ -302,15 +302,15 @@ cycle_goes s x =
       routed = alarms_routed n _ (yields_routed n noted' (noted n entry.Cycle counted (tt, tt) (changed n s counted refl refl h.keeps h)));
     }
 
-ended_goes : (why : Ending) (s : State) → Later 0 s → ErrorsGoUp (noting (entry.End why) s).trace
-ended_goes why s x = other_goes s.trace (entry.End why) tt x.routed.goes
+ended_goes : (why : Ending) (s : State) → IsNoError (entry.End why) → Later 0 s → ErrorsGoUp (noting (entry.End why) s).trace
+ended_goes why s q x = other_goes s.trace (entry.End why) q x.routed.goes
 
 cycle_ended_goes : (config : Config) (s : State) (m : Machine) → Later 0 s → MachineGoes (cycle_ended config s m)
 cycle_ended_goes config s m x =
     if_machine (has_more s) _ _ (cycle_goes s x)
     (if_machine (not (is_quiet s)) _ _ (cycle_goes s x)
-    (if_machine (is_empty_list s.works) _ _ (ended_goes ending.Idle s x)
-    (if_machine (is_stuck config.threads s) _ _ (ended_goes ending.Stuck s x) (cycle_goes s x))))
+    (if_machine (is_empty_list s.works) _ _ (ended_goes ending.Idle s tt x)
+    (if_machine (is_stuck config.threads s) _ _ (ended_goes ending.Stuck s tt x) (cycle_goes s x))))
 
 -- the job that is picked, and the state without it
 record Picked (n : ℕ) (job : Job Task) (s : State) : Type 0 where
@@ -358,7 +358,7 @@ picked_goes : (program : NumProgram) → ProcsAreSound program.procs → (config
     → pick_of s.queues ≡ o → HeldBy program.procs [] s → Later 0 s → MachineGoes (picked program config o s m)
 picked_goes program sound config None s m e f x = cycle_ended_goes config s m x
 picked_goes program sound config (Some job) s m e f x =
-    if_machine (nat_le config.jobs m.ran) _ _ (ended_goes ending.Jobs s x)
+    if_machine (nat_le config.jobs m.ran) _ _ (ended_goes ending.Jobs s tt x)
     (progressed_goes _ _ (job_goes program.procs sound job s x.most e f x.routed))
 
 served_goes : (program : NumProgram) → ProcsAreSound program.procs → (config : Config) (o : Option State) (left : ℕ) (m : Machine) (n : ℕ)

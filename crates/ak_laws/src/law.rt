@@ -1,6 +1,6 @@
 //! The laws of the trace of a run. Each contract is a law; no function does anything.
 
-ghost use Rattle.std.specs.Prelude.{ℕ, ◌≡◌, List};
+ghost use Rattle.std.specs.Prelude.{ℕ, ◌≡◌, ◌<◌, List, [], length};
 ghost use Rattle.std.specs.List.{AllByRecursion};
 ghost use Rattle.ak_labor.specs.Calls.{Reply};
 ghost use Rattle.ak_program.specs.Programs.{NumProgram, ProgramIsSound};
@@ -11,7 +11,7 @@ ghost use Rattle.ak_laws.specs.Order.{IsInOrder};
 ghost use Rattle.ak_laws.specs.Jobs.{JobsInOrder, CyclesAreLimited};
 ghost use Rattle.ak_laws.specs.Requests.{RequestsAreServed};
 ghost use Rattle.ak_laws.specs.Works.{BringsValues, WorksArriveOnce};
-ghost use Rattle.ak_laws.specs.Errors.{ErrorsGoUp};
+ghost use Rattle.ak_laws.specs.Errors.{path_from, path_in, ErrorsGoUp};
 ghost use Rattle.ak_laws.specs.Laws.{ObeysLaws};
 
 use ak_holders::law::fills_once;
@@ -71,10 +71,17 @@ pub fn works_arrive_once()
         → WorksArriveOnce (run_of program config replies).trace }
 {}
 
+/// The path of a monitor is the same with any number of steps beyond that of the entries: none ends for want of steps. Own.
+pub fn path_has_its_steps()
+    ensures { (before : List Entry) (m steps : ℕ) → length before < steps
+        → path_from steps before [] m ≡ path_in before m }
+{}
+
 /// In every run that has ended, of a sound program, each error is caught at once, at the first monitor that is detached there: the
-/// one in which it was raised, its parent, and so on to the root. Where none of them is detached, the error is unhandled and the run
-/// ends by it. Nothing else is caught or unhandled, and only what was just caught is dropped. From Async's documentation of
-/// monitors in outline; that the path begins with the monitor of the error, and what becomes of later errors, is own.
+/// one in which it was raised, its parent, and so on to the root. Where none of them is detached, the error is unhandled and the
+/// run ends by it. Nothing else is caught, unhandled or ends a run so, and only what was just caught is dropped. From Async's
+/// documentation of monitors in outline; that the path begins with the monitor of the error, and what becomes of later errors, is
+/// own.
 pub fn errors_go_up()
     ensures { (program : NumProgram) → ProgramIsSound program.procs program.main program.ask
         → (config : Config) (replies : List Reply) → (run_of program config replies).outcome ≡ HasEnded

@@ -46,11 +46,13 @@ pub fn path_ends()
     ensures last { Obeys (both_detached ++ Entry.Monitor 3 1 ∷ []) 3 (caught 1) }
 {}
 
-/// Nothing but an error is caught or unhandled.
+/// Nothing but an error is caught or unhandled, and nothing else ends a trace so.
 pub fn only_errors_are_caught()
     ensures not_twice { Breaks one_detached 2 (caught 1 ++ caught 1) }
     ensures not_alone { ErrorsGoUp (one_detached ++ caught 1) → ⊥ }
-    ensures no_end_alone { ErrorsGoUp (one_detached ++ unhandled (pos 5)) → ⊥ }
+    ensures not_unhandled { ErrorsGoUp (one_detached ++ unhandled (pos 5)) → ⊥ }
+    ensures not_ended { ErrorsGoUp (one_detached ++ Entry.End Ending.Unhandled ∷ []) → ⊥ }
+    ensures ended_else { ErrorsGoUp (one_detached ++ Entry.End Ending.Idle ∷ []) }
 {}
 
 /// A later error is dropped only where it was just caught, and told by its number.
