@@ -60,7 +60,8 @@ nothing_brought askers xs e id none drained k =
     ap (list_any (is_pair_of id)) replied ∙ (k ∙ sym (ap (λ l. is_among l id) fetched))
 
 drain_brought : (threads askers : ℕ) (xs : List Event) (ids requests : List ℕ) (id : ℕ) → Legal threads askers xs → ids ≡ owed xs
-    → brings askers xs id ≡ is_among (flat_map drained_in xs) id → brings askers (xs ++ event.Drain ids requests ∷ []) id ≡ is_among (flat_map drained_in (xs ++ event.Drain ids requests ∷ [])) id
+    → brings askers xs id ≡ is_among (flat_map drained_in xs) id
+    → brings askers (xs ++ event.Drain ids requests ∷ []) id ≡ is_among (flat_map drained_in (xs ++ event.Drain ids requests ∷ [])) id
 drain_brought threads askers xs ids requests id legal is k =
     let e = event.Drain ids requests in
     let pairs : filter_map (finish_in xs) ids ≡ owed_pairs xs = ap (filter_map (finish_in xs)) is ∙ works_fetched threads askers xs legal in
@@ -134,7 +135,8 @@ arrive_all works [] apart h = tt
 arrive_all works (f ∷ fs) apart h = (
   h.0,
   arrive_all (filter (is_other f.0) works) fs apart.1
-      (each_map (λ g. IsThere works g × ((g.0 == f.0) ≡ false)) (IsThere (filter (is_other f.0) works)) (λ g k. still_there works f.0 g k.1 k.0) fs (each_both (IsThere works) (λ g. (g.0 == f.0) ≡ false) fs h.1 apart.0)),
+      (each_map (λ g. IsThere works g × ((g.0 == f.0) ≡ false)) (IsThere (filter (is_other f.0) works)) (λ g k. still_there works f.0 g k.1 k.0) fs
+      (each_both (IsThere works) (λ g. (g.0 == f.0) ≡ false) fs h.1 apart.0)),
 )
 
 apart_kept : (p : ℕ × Outcome → Bool) (fs : List (ℕ × Outcome)) → AreApart fs → AreApart (filter p fs)
@@ -158,7 +160,8 @@ finished_values threads askers xs h =
   where
     more : (ys : List Event) (e : Event) (f : ℕ × Outcome) → HasValue (work_at ys f.0) f.1 → HasValue (work_at (ys ++ e ∷ []) f.0) f.1
     more ys e f v =
-        subst (λ l. HasValue (find (λ (w : Handed). w.id == f.0) l) f.1) (sym (filter_map-append handed_in ys (e ∷ []))) (value_more (handed ys) (handed (e ∷ [])) f.0 (work_at ys f.0) f.1 refl v)
+        subst (λ l. HasValue (find (λ (w : Handed). w.id == f.0) l) f.1) (sym (filter_map-append handed_in ys (e ∷ [])))
+        (value_more (handed ys) (handed (e ∷ [])) f.0 (work_at ys f.0) f.1 refl v)
 
     new : (ys : List Event) (e : Event) → IsLegalAfter threads askers ys e → Each (λ f. HasValue (work_at (ys ++ e ∷ []) f.0) f.1) (finished (e ∷ []))
     new ys (event.Submit id work helper) is = tt
@@ -179,7 +182,8 @@ there_by threads askers xs f (Some w) legal e v out =
     let id : w.id ≡ f.0 = eqb-true w.id f.0 (find_passes (λ (x : Handed). x.id == f.0) (handed xs) w e) in
     let is : is_out (replies askers xs) w ≡ true = ap not (brought_is threads askers xs w.id legal ∙ ap (is_among (flat_map drained_in xs)) id) ∙ out in
     let there : Contains (outstanding (asks xs) (replies askers xs)) w =
-    subst (λ l. Contains (filter (is_out (replies askers xs)) l) w) (sym (handed_alike xs)) (contains_kept (is_out (replies askers xs)) (handed xs) w is (contains_found (λ (x : Handed). x.id == f.0) (handed xs) w e)) in (
+    subst (λ l. Contains (filter (is_out (replies askers xs)) l) w) (sym (handed_alike xs))
+    (contains_kept (is_out (replies askers xs)) (handed xs) w is (contains_found (λ (x : Handed). x.id == f.0) (handed xs) w e)) in (
       w.work,
       w.helper,
       subst (λ n. Contains (outstanding (asks xs) (replies askers xs)) (record { id = n; work = w.work; helper = w.helper })) id there,
@@ -191,5 +195,7 @@ pub arrives : (threads askers : ℕ) (xs : List Event) → Legal threads askers 
 arrives threads askers xs h =
     let left = λ (f : ℕ × Outcome). not (is_among (flat_map drained_in xs) f.0) in
     arrive_all (outstanding (asks xs) (replies askers xs)) (owed_pairs xs) (apart_kept left (finished xs) (finished_apart threads askers xs h))
-    (each_map (λ f. HasValue (work_at xs f.0) f.1 × (left f ≡ true)) (IsThere (outstanding (asks xs) (replies askers xs))) (λ f k. there_by threads askers xs f (work_at xs f.0) h refl k.0 k.1) (owed_pairs xs)
-    (each_both (λ f. HasValue (work_at xs f.0) f.1) (λ f. left f ≡ true) (owed_pairs xs) (each_filter (λ f. HasValue (work_at xs f.0) f.1) left (finished xs) (finished_values threads askers xs h)) (each_passes left (finished xs))))
+    (each_map (λ f. HasValue (work_at xs f.0) f.1 × (left f ≡ true)) (IsThere (outstanding (asks xs) (replies askers xs)))
+    (λ f k. there_by threads askers xs f (work_at xs f.0) h refl k.0 k.1) (owed_pairs xs)
+    (each_both (λ f. HasValue (work_at xs f.0) f.1) (λ f. left f ≡ true) (owed_pairs xs)
+    (each_filter (λ f. HasValue (work_at xs f.0) f.1) left (finished xs) (finished_values threads askers xs h)) (each_passes left (finished xs))))

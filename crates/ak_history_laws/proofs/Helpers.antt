@@ -48,7 +48,8 @@ stays false c x f = refl
 
 one_kept : (h n k : ℕ) (ks : List ℕ) (b : Bool) → (k == n) ≡ b
     → list_any (is_number h) (filter (is_other_helper n) ks) ≡ (list_any (is_number h) ks && not (n == h))
-    → list_any (is_number h) (cond (not b) (k ∷ filter (is_other_helper n) ks) (filter (is_other_helper n) ks)) ≡ (((k == h) || list_any (is_number h) ks) && not (n == h))
+    → list_any (is_number h) (cond (not b) (k ∷ filter (is_other_helper n) ks) (filter (is_other_helper n) ks))
+    ≡ (((k == h) || list_any (is_number h) ks) && not (n == h))
 one_kept h n k ks true is later =
     later ∙ (gone (n == h) (list_any (is_number h) ks) ∙ ap (λ m. ((m == h) || list_any (is_number h) ks) && not (n == h)) (sym (eqb-true k n is)))
 one_kept h n k ks false is later =
@@ -78,7 +79,8 @@ abbrev names : ℕ → Reserved → Bool
 names h r = r.helper == h
 
 active_parts : (xs : List Event) (e : Event) (h : ℕ)
-    → is_active (xs ++ e ∷ []) h ≡ (list_any (names h) (filter_map reserved_in xs ++ filter_map reserved_in (e ∷ [])) && not (is_among (filter_map ended_in xs ++ filter_map ended_in (e ∷ [])) h))
+    → is_active (xs ++ e ∷ []) h ≡ (list_any (names h) (filter_map reserved_in xs ++ filter_map reserved_in (e ∷ [])) && not
+    (is_among (filter_map ended_in xs ++ filter_map ended_in (e ∷ [])) h))
 active_parts xs e h = λ i. list_any (names h) (filter_map-append reserved_in xs (e ∷ []) i) && not (is_among (filter_map-append ended_in xs (e ∷ []) i) h)
 
 -- an event that is no helper's leaves which are active
@@ -86,7 +88,8 @@ active_same : (xs : List Event) (e : Event) (h : ℕ) → filter_map reserved_in
     → is_active (xs ++ e ∷ []) h ≡ is_active xs h
 active_same xs e h g k =
     active_parts xs e h
-    ∙ (λ i. list_any (names h) ((ap (λ l. filter_map reserved_in xs ++ l) g ∙ append-nil (filter_map reserved_in xs)) i) && not (is_among ((ap (λ l. filter_map ended_in xs ++ l) k ∙ append-nil (filter_map ended_in xs)) i) h))
+    ∙ (λ i. list_any (names h) ((ap (λ l. filter_map reserved_in xs ++ l) g ∙ append-nil (filter_map reserved_in xs)) i) && not
+    (is_among ((ap (λ l. filter_map ended_in xs ++ l) k ∙ append-nil (filter_map ended_in xs)) i) h))
 
 pub record Alike (threads askers : ℕ) (xs : List Event) : Type 0 where
   pub legal : Legal threads askers xs
@@ -98,7 +101,8 @@ not_ended : (threads askers : ℕ) (xs : List Event) (n : ℕ) → Legal threads
     → is_among (filter_map ended_in xs) n ≡ false
 not_ended threads askers xs n h is =
     none_any (λ k. k == n) (filter_map ended_in xs)
-    (each_map (λ k. k < count_by is_helper_new xs) (λ k. (k == n) ≡ false) (λ k less. ne_eqb k n (λ e. absurd (omega (arith, e, less, is)))) (filter_map ended_in xs) (left_by threads askers xs h).stands.ended_known)
+    (each_map (λ k. k < count_by is_helper_new xs) (λ k. (k == n) ≡ false) (λ k less. ne_eqb k n (λ e. absurd (omega (arith, e, less, is))))
+    (filter_map ended_in xs) (left_by threads askers xs h).stands.ended_known)
 
 -- a call and its reply
 called : (threads askers : ℕ) (xs : List Event) (e : Event) (a : Ask) (r : Reply) → Alike threads askers xs → IsLegalAfter threads askers xs e
@@ -111,7 +115,8 @@ called threads askers xs e a r k is ask reply goes =
     record {
       legal = legal_next threads askers xs e k.legal is;
       same = omega (arith, ap length asked, ap length replied, length-append (asks xs) (a ∷ []), length-append (replies askers xs) (r ∷ []), k.same);
-      active = λ h. (λ i. list_any (is_number h) (active_helpers (asked i) (replied i))) ∙ (ap (list_any (is_number h)) (active_next (asks xs) (replies askers xs) a r k.same) ∙ goes h);
+      active = λ h. (λ i. list_any (is_number h) (active_helpers (asked i) (replied i)))
+          ∙ (ap (list_any (is_number h)) (active_next (asks xs) (replies askers xs) a r k.same) ∙ goes h);
     }
 
 -- an event of a thread or an asker
@@ -120,7 +125,8 @@ uncalled : (threads askers : ℕ) (xs : List Event) (e : Event) → Alike thread
     → Alike threads askers (xs ++ e ∷ [])
 uncalled threads askers xs e k is ask reply g d =
     let asked : asks (xs ++ e ∷ []) ≡ asks xs = filter_map-append ask_of xs (e ∷ []) ∙ (ap (λ l. asks xs ++ l) ask ∙ append-nil (asks xs)) in
-    let replied : replies askers (xs ++ e ∷ []) ≡ replies askers xs = replies_more askers xs (e ∷ []) ∙ (ap (λ l. replies askers xs ++ l) reply ∙ append-nil (replies askers xs)) in
+    let replied : replies askers (xs ++ e ∷ []) ≡ replies askers xs = replies_more askers xs (e ∷ [])
+    ∙ (ap (λ l. replies askers xs ++ l) reply ∙ append-nil (replies askers xs)) in
     record {
       legal = legal_next threads askers xs e k.legal is;
       same = omega (arith, ap length asked, ap length replied, k.same);
@@ -129,17 +135,20 @@ uncalled threads askers xs e k is ask reply g d =
 
 one_more : (threads askers : ℕ) (xs : List Event) (e : Event) → Alike threads askers xs → IsLegalAfter threads askers xs e → Alike threads askers (xs ++ e ∷ [])
 one_more threads askers xs (event.Submit id work helper) k is =
-    called threads askers xs (event.Submit id work helper) (ask.Submit id work helper) Done k is refl refl (λ h. k.active h ∙ sym (active_same xs (event.Submit id work helper) h refl refl))
+    called threads askers xs (event.Submit id work helper) (ask.Submit id work helper) Done k is refl refl
+    (λ h. k.active h ∙ sym (active_same xs (event.Submit id work helper) h refl refl))
 one_more threads askers xs (event.Start thread id) k is = uncalled threads askers xs (event.Start thread id) k is refl refl refl refl
 one_more threads askers xs (event.Finish thread id outcome) k is = uncalled threads askers xs (event.Finish thread id outcome) k is refl refl refl refl
 one_more threads askers xs (event.Request q asker n) k is = uncalled threads askers xs (event.Request q asker n) k is refl refl refl refl
 one_more threads askers xs (event.AskerEnd asker) k is = uncalled threads askers xs (event.AskerEnd asker) k is refl refl refl refl
 one_more threads askers xs (event.Drain ids requests) k is =
-    called threads askers xs (event.Drain ids requests) ask.Drain _ k is refl refl (λ h. k.active h ∙ sym (active_same xs (event.Drain ids requests) h refl refl))
+    called threads askers xs (event.Drain ids requests) ask.Drain _ k is refl refl
+    (λ h. k.active h ∙ sym (active_same xs (event.Drain ids requests) h refl refl))
 one_more threads askers xs (event.Answered q v) k is =
     called threads askers xs (event.Answered q v) (ask.Answer q v) Done k is refl refl (λ h. k.active h ∙ sym (active_same xs (event.Answered q v) h refl refl))
 one_more threads askers xs (event.HelperNew n None) k is =
-    called threads askers xs (event.HelperNew n None) (ask.HelperNew n) (Granted false) k is refl refl (λ h. k.active h ∙ sym (active_same xs (event.HelperNew n None) h refl refl))
+    called threads askers xs (event.HelperNew n None) (ask.HelperNew n) (Granted false) k is refl refl
+    (λ h. k.active h ∙ sym (active_same xs (event.HelperNew n None) h refl refl))
 one_more threads askers xs (event.HelperNew n (Some t)) k is =
     called threads askers xs (event.HelperNew n (Some t)) (ask.HelperNew n) (Granted true) k is refl refl
     (λ h.
@@ -150,7 +159,8 @@ one_more threads askers xs (event.HelperNew n (Some t)) k is =
     ∙ (begins g d (n == h) (λ e. ap (is_among (filter_map ended_in xs)) (sym (eqb-true n h e)) ∙ not_ended threads askers xs n k.legal is.rule.0)
     ∙ sym
     (active_parts xs (event.HelperNew n (Some t)) h
-    ∙ (λ i. list_any-append (names h) (filter_map reserved_in xs) (record { helper = n; thread = t } ∷ []) i && not (is_among (append-nil (filter_map ended_in xs) i) h))))))
+    ∙ (λ i. list_any-append (names h) (filter_map reserved_in xs) (record { helper = n; thread = t } ∷ []) i && not
+    (is_among (append-nil (filter_map ended_in xs) i) h))))))
 one_more threads askers xs (event.HelperEnd n) k is =
     called threads askers xs (event.HelperEnd n) (ask.HelperEnd n) Done k is refl refl
     (λ h.
@@ -161,13 +171,15 @@ one_more threads askers xs (event.HelperEnd n) k is =
     ∙ (ends g d (n == h)
     ∙ sym
     (active_parts xs (event.HelperEnd n) h
-    ∙ (λ i. list_any (names h) (append-nil (filter_map reserved_in xs) i) && not (list_any-append (λ (other : ℕ). other == h) (filter_map ended_in xs) (n ∷ []) i))))))
+    ∙ (λ i. list_any (names h) (append-nil (filter_map reserved_in xs) i) && not
+    (list_any-append (λ (other : ℕ). other == h) (filter_map ended_in xs) (n ∷ []) i))))))
 one_more threads askers xs event.Close k is =
     called threads askers xs event.Close ask.Close Done k is refl refl (λ h. k.active h ∙ sym (active_same xs event.Close h refl refl))
 
 -- the scheduler's calls and replies tell which helpers are active
 pub alike : (threads askers : ℕ) (xs : List Event) → Legal threads askers xs → Alike threads askers xs
-alike threads askers xs h = legal_keeps threads askers (Alike threads askers) (record { legal = tt; same = refl; active = λ h. refl }) (λ ys e k is. one_more threads askers ys e k is) xs h
+alike threads askers xs h = legal_keeps threads askers (Alike threads askers) (record { legal = tt; same = refl; active = λ h. refl })
+    (λ ys e k is. one_more threads askers ys e k is) xs h
 
 pub served_alike : (threads askers : ℕ) (xs : List Event) (helper : Option ℕ) → Legal threads askers xs
     → IsServedBy (asks xs) (replies askers xs) helper → IsServed xs helper

@@ -48,7 +48,13 @@ pub record Left (threads askers : ℕ) (history : List Event) : Type 0 where
 
 pub left_by : (threads askers : ℕ) (history : List Event) → Legal threads askers history → Left threads askers history
 left_by threads askers history h =
-    legal_keeps threads askers (Left threads askers) (record { desk = no_works threads; stands = stands_first threads; requests = nothing_asked askers; asked = asked_first askers })
+    legal_keeps threads askers (Left threads askers) (record {
+      desk = no_works threads;
+      stands = stands_first threads;
+      requests = nothing_asked askers;
+      asked
+          = asked_first askers;
+    })
     (λ xs e k is. record {
       desk = noted e k.desk;
       stands = stands_next threads xs k.desk e k.stands (legal_fits threads askers xs k.desk e k.stands is);

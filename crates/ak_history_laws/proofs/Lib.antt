@@ -10,3 +10,4 @@ pub mod Owed
 pub mod Once
 pub mod Out
 pub mod Requests
+pub mod Answering

@@ -44,7 +44,8 @@ one_start threads askers id xs (event.Start thread n) k is =
 
     one : (b : Bool) → (n == id) ≡ b → count_by (λ (b : Begun). b.id == id) (begun xs ++ new ∷ []) ≤ 1
     one true is_it =
-        let none : list_any (λ (b : Begun). b.id == id) (begun xs) ≡ false = subst (λ m. list_any (λ (b : Begun). b.id == m) (begun xs) ≡ false) (eqb-true n id is_it) fresh in
+        let none : list_any (λ (b : Begun). b.id == id) (begun xs) ≡ false = subst (λ m. list_any (λ (b : Begun). b.id == m) (begun xs) ≡ false)
+        (eqb-true n id is_it) fresh in
         omega (arith, count_more (λ (b : Begun). b.id == id) (begun xs) new, ap bit is_it, count_none (λ (b : Begun). b.id == id) (begun xs) none)
     one false is_it =
         omega (arith, count_more (λ (b : Begun). b.id == id) (begun xs) new, ap bit is_it, k)
@@ -98,7 +99,8 @@ all_map P Q f (x ∷ xs) h = (f x h.0, all_map P Q f xs h.1)
 once_begun : (threads askers : ℕ) (xs : List Event) → Legal threads askers xs → (w : Handed) → is_out (replies askers xs) w ≡ false → StartedOnce xs w
 once_begun threads askers xs h w came =
     let stands = (left_by threads askers xs h).stands in
-    let drained : is_among (flat_map drained_in xs) w.id ≡ true = sym (brought_is threads askers xs w.id h) ∙ not_out (list_any (is_pair_of w.id) (flat_map pairs_in (replies askers xs))) came in
+    let drained : is_among (flat_map drained_in xs) w.id ≡ true = sym (brought_is threads askers xs w.id h)
+    ∙ not_out (list_any (is_pair_of w.id) (flat_map pairs_in (replies askers xs))) came in
     let done : is_finished xs w.id ≡ true = each_among (λ id. is_finished xs id ≡ true) (flat_map drained_in xs) w.id stands.finished_first drained in
     let started : is_begun xs w.id ≡ true = each_finished (λ id. is_begun xs id ≡ true) (finished xs) w.id stands.begun_first done in
     let least : 1 ≤ starts_of xs w.id = count_some (λ (b : Begun). b.id == w.id) (begun xs) started in

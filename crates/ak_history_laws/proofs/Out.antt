@@ -24,7 +24,8 @@ not_drained : (threads askers : ℕ) (xs : List Event) (id : ℕ) (work : Work) 
     → IsLegalAfter threads askers xs (event.Submit id work helper) → is_among (flat_map drained_in xs) id ≡ false
 not_drained threads askers xs id work helper h is =
     let st = (left_by threads askers xs h).stands in
-    let fresh : is_begun xs id ≡ false = fresh_unbegun (handed xs) (filter_map reserved_in xs) (begun xs) id st.numbered (omega (arith, is.rule.0, st.handed_all)) st.begun_once in
+    let fresh : is_begun xs id ≡ false = fresh_unbegun (handed xs) (filter_map reserved_in xs) (begun xs) id st.numbered
+    (omega (arith, is.rule.0, st.handed_all)) st.begun_once in
     false_from_ne_true (is_among (flat_map drained_in xs) id)
     (λ drained.
     let done : is_finished xs id ≡ true = each_among (λ n. is_finished xs n ≡ true) (flat_map drained_in xs) id st.finished_first drained in
@@ -42,9 +43,11 @@ pub out_now : (threads askers : ℕ) (xs : List Event) (id : ℕ) (work : Work) 
 out_now threads askers xs id work helper h is =
     let all = xs ++ event.Submit id work helper ∷ [] in
     let w : Handed = record { id = id; work = work; helper = helper } in
-    let drained : flat_map drained_in all ≡ flat_map drained_in xs = flat_map-append drained_in xs (event.Submit id work helper ∷ []) ∙ append-nil (flat_map drained_in xs) in
+    let drained : flat_map drained_in all ≡ flat_map drained_in xs = flat_map-append drained_in xs (event.Submit id work helper ∷ [])
+    ∙ append-nil (flat_map drained_in xs) in
     let out : is_out (replies askers all) w ≡ true =
-    ap not (brought_is threads askers all id (legal_next threads askers xs (event.Submit id work helper) h is) ∙ (ap (λ l. is_among l id) drained ∙ not_drained threads askers xs id work helper h is)) in
+    ap not (brought_is threads askers all id (legal_next threads askers xs (event.Submit id work helper) h is)
+    ∙ (ap (λ l. is_among l id) drained ∙ not_drained threads askers xs id work helper h is)) in
     let hands : filter_map handed_by (asks all) ≡ handed xs ++ w ∷ [] = handed_alike all ∙ filter_map-append handed_in xs (event.Submit id work helper ∷ []) in
     let outs : outstanding (asks all) (replies askers all) ≡ filter (is_out (replies askers all)) (handed xs) ++ w ∷ [] =
     ap (filter (is_out (replies askers all))) hands ∙ filter_last (is_out (replies askers all)) (handed xs) w out in

@@ -47,7 +47,8 @@ replies_append askers before [] ys = ap (λ l. replies_after askers l ys) (sym (
 replies_append askers before (x ∷ xs) ys =
     ap (reply_before (reply_in askers before x)) (replies_append askers (before ++ x ∷ []) xs ys)
     ∙ (front_of (reply_in askers before x)
-    ∙ ap (λ l. reply_before (reply_in askers before x) (replies_after askers (before ++ x ∷ []) xs) ++ replies_after askers l ys) (append_assoc before (x ∷ []) xs))
+    ∙ ap (λ l. reply_before (reply_in askers before x) (replies_after askers (before ++ x ∷ []) xs) ++ replies_after askers l ys)
+    (append_assoc before (x ∷ []) xs))
   where
     front_of : (o : Option Reply) → reply_before o (replies_after askers (before ++ x ∷ []) xs ++ replies_after askers ((before ++ x ∷ []) ++ xs) ys)
         ≡ reply_before o (replies_after askers (before ++ x ∷ []) xs) ++ replies_after askers ((before ++ x ∷ []) ++ xs) ys
@@ -77,7 +78,8 @@ apart_last (g ∷ fs) f h k =
 found_last : (fs : List (ℕ × Outcome)) (f : ℕ × Outcome) → AreFound fs → list_any (λ g. g.0 == f.0) fs ≡ false → AreFound (fs ++ f ∷ [])
 found_last fs f h k =
     each_append (λ x. find (λ g. g.0 == x.0) (fs ++ f ∷ []) ≡ Some x) fs (f ∷ [])
-    (each_map (λ x. find (λ g. g.0 == x.0) fs ≡ Some x) (λ x. find (λ g. g.0 == x.0) (fs ++ f ∷ []) ≡ Some x) (λ x e. find_more (λ g. g.0 == x.0) fs (f ∷ []) x e) fs h)
+    (each_map (λ x. find (λ g. g.0 == x.0) fs ≡ Some x) (λ x. find (λ g. g.0 == x.0) (fs ++ f ∷ []) ≡ Some x)
+    (λ x e. find_more (λ g. g.0 == x.0) fs (f ∷ []) x e) fs h)
     (find_last (λ g. g.0 == f.0) fs f (none_found (λ g. g.0 == f.0) fs k) (eq-eqb f.0 f.0 refl), tt)
 
 -- a law of the finished works, kept by each finish
@@ -118,7 +120,8 @@ pub works_fetched : (threads askers : ℕ) (xs : List Event) → Legal threads a
 works_fetched threads askers xs h =
     let left = λ (id : ℕ). not (is_among (flat_map drained_in xs) id) in
     ap (filter_map (finish_in xs)) (sym (map_filter left (finished xs)))
-    ∙ found_again (finished xs) (owed_pairs xs) (each_filter (λ f. find (λ g. g.0 == f.0) (finished xs) ≡ Some f) (λ (f : ℕ × Outcome). left f.0) (finished xs) (finished_found threads askers xs h))
+    ∙ found_again (finished xs) (owed_pairs xs) (each_filter (λ f. find (λ g. g.0 == f.0) (finished xs) ≡ Some f) (λ (f : ℕ × Outcome). left f.0)
+    (finished xs) (finished_found threads askers xs h))
 
 -- ---- requests
 abbrev asked_pair : Asking → ℕ × ℤ
@@ -128,7 +131,8 @@ request_found : (made all : List Asking) → Each (λ r. find (λ (s : Asking). 
     → filter_map (λ q. option_map asked_pair (find (λ (r : Asking). r.no == q) all)) (map (λ (r : Asking). r.no) made) ≡ map asked_pair made
 request_found [] all h = refl
 request_found (r ∷ made) all h =
-    ap (λ o. cons_option (option_map asked_pair o) (filter_map (λ q. option_map asked_pair (find (λ (s : Asking). s.no == q) all)) (map (λ (s : Asking). s.no) made))) h.0
+    ap (λ o. cons_option (option_map asked_pair o) (filter_map (λ q. option_map asked_pair (find (λ (s : Asking). s.no == q) all))
+    (map (λ (s : Asking). s.no) made))) h.0
     ∙ ap (λ l. asked_pair r ∷ l) (request_found made all h.1)
 
 -- each request is found under its number
@@ -136,7 +140,8 @@ asked_found : (askers : ℕ) (xs : List Event) (s : RequestsState) → AskersSta
     → Each (λ r. find (λ (x : Asking). x.no == r.no) (asked xs) ≡ Some r) (asked xs)
 asked_found askers xs s st =
     subst (λ l. Each (λ r. find (λ (x : Asking). x.no == r.no) l ≡ Some r) l) (sym st.asked)
-    (each_at (λ r. find (λ (x : Asking). x.no == r.no) (map asking_of s.made) ≡ Some r) (map asking_of s.made) (asking_of no_request) (λ q lt. here q (omega (arith, lt, length-map s.made asking_of))))
+    (each_at (λ r. find (λ (x : Asking). x.no == r.no) (map asking_of s.made) ≡ Some r) (map asking_of s.made) (asking_of no_request)
+    (λ q lt. here q (omega (arith, lt, length-map s.made asking_of))))
   where
     all : List Asking
     all = map asking_of s.made
@@ -149,7 +154,8 @@ asked_found askers xs s st =
 
     here : (q : ℕ) → q < length s.made → find (λ (x : Asking). x.no == (at q).no) (map asking_of s.made) ≡ Some (at q)
     here q lt =
-        find_at (λ (x : Asking). x.no == (at q).no) (map asking_of s.made) (asking_of no_request) q (omega (arith, lt, length-map s.made asking_of)) (eq-eqb (at q).no (at q).no refl)
+        find_at (λ (x : Asking). x.no == (at q).no) (map asking_of s.made) (asking_of no_request) q (omega (arith, lt, length-map s.made asking_of))
+        (eq-eqb (at q).no (at q).no refl)
         (λ j less. ne_eqb (at j).no (at q).no (λ e. absurd (omega (arith, e, number q lt, number j (omega (arith, less, lt)), less))))
 
 -- the requests with their numbers that a drain fetches
@@ -158,7 +164,8 @@ requests_fetched threads askers xs h =
     let left = left_by threads askers xs h in
     let bare = λ (r : Asking). not (is_fetched xs r.no) in
     ap (filter_map (request_in xs)) (filter_mapped (λ q. not (is_fetched xs q)) (λ (r : Asking). r.no) (asked xs))
-    ∙ request_found (filter bare (asked xs)) (asked xs) (each_filter (λ r. find (λ (x : Asking). x.no == r.no) (asked xs) ≡ Some r) bare (asked xs) (asked_found askers xs left.requests left.asked))
+    ∙ request_found (filter bare (asked xs)) (asked xs) (each_filter (λ r. find (λ (x : Asking). x.no == r.no) (asked xs) ≡ Some r) bare (asked xs)
+    (asked_found askers xs left.requests left.asked))
 
 -- LAW. The reply to a drain of a legal history is what the pool brings by it.
 pub drain_reply : (threads askers : ℕ) (xs : List Event) → Legal threads askers xs → arrived_in askers xs (owed xs) (unfetched xs) ≡ brought askers xs

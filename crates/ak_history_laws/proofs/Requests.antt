@@ -55,7 +55,8 @@ others_asked a (event.Submit id work helper ∷ ys) h = others_asked a ys h.1
 others_asked a (event.Start thread id ∷ ys) h = others_asked a ys h.1
 others_asked a (event.Finish thread id outcome ∷ ys) h = others_asked a ys h.1
 others_asked a (event.Request q asker n ∷ ys) h =
-    ap (λ b. cond b (record { no = q; asker = asker; num = n } ∷ filter (is_of_asker a) (asked ys)) (filter (is_of_asker a) (asked ys))) h.0 ∙ others_asked a ys h.1
+    ap (λ b. cond b (record { no = q; asker = asker; num = n } ∷ filter (is_of_asker a) (asked ys)) (filter (is_of_asker a) (asked ys))) h.0
+    ∙ others_asked a ys h.1
 others_asked a (event.AskerEnd asker ∷ ys) h = others_asked a ys h.1
 others_asked a (event.Drain ids requests ∷ ys) h = others_asked a ys h.1
 others_asked a (event.Answered q v ∷ ys) h = others_asked a ys h.1
@@ -107,7 +108,7 @@ answer_stays xs ys q v e =
     ∙ (ap (option_map (λ (x : ℕ × ℤ). x.1)) (find_more (λ (x : ℕ × ℤ). x.0 == q) (answers xs) (answers ys) found.0 found.1) ∙ ap Some found.2)
 
 -- ---- which requests replies have brought
-same_numbers : (threads askers : ℕ) (xs : List Event) → Legal threads askers xs → map (λ (r : ℕ × ℤ). r.0) (request_pairs xs) ≡ unfetched xs
+pub same_numbers : (threads askers : ℕ) (xs : List Event) → Legal threads askers xs → map (λ (r : ℕ × ℤ). r.0) (request_pairs xs) ≡ unfetched xs
 same_numbers threads askers xs h =
     let left = left_by threads askers xs h in
     ap (map (λ (r : ℕ × ℤ). r.0)) (sym (pairs_are askers xs left.requests left.asked))
@@ -139,7 +140,8 @@ one_came threads askers xs (event.Request q asker n) legal is k = none_came aske
 one_came threads askers xs (event.AskerEnd asker) legal is k = none_came askers xs (event.AskerEnd asker) refl k
 one_came threads askers xs (event.Drain ids requests) legal is k =
     none_came askers xs (event.Drain ids requests)
-    (ap (map (λ (r : ℕ × ℤ). r.0)) (append-nil (filter_map (request_in xs) requests) ∙ (ap (filter_map (request_in xs)) is.rule.1 ∙ requests_fetched threads askers xs legal))
+    (ap (map (λ (r : ℕ × ℤ). r.0)) (append-nil (filter_map (request_in xs) requests)
+    ∙ (ap (filter_map (request_in xs)) is.rule.1 ∙ requests_fetched threads askers xs legal))
     ∙ (same_numbers threads askers xs legal ∙ (sym is.rule.1 ∙ sym (append-nil requests))))
     k
 one_came threads askers xs (event.Answered q v) legal is k = none_came askers xs (event.Answered q v) refl k
@@ -211,7 +213,8 @@ among_left p g (r ∷ rs) q same h = one (g r.0) refl (r.0 == q) refl h (λ k. a
 pub answerable : (threads askers : ℕ) (xs : List Event) (q : ℕ) → Legal threads askers xs → IsAnswerable (asks xs) (replies askers xs) q
     → (is_fetched xs q ≡ true) × (is_answered xs q ≡ false)
 answerable threads askers xs q legal h =
-    let k = among_left (is_unanswered (asks xs)) (is_answered xs) (came (replies askers xs)) q (unanswered_is xs) (contains_any (map (λ (r : ℕ × ℤ). r.0) (unanswered (asks xs) (replies askers xs))) q h) in
+    let k = among_left (is_unanswered (asks xs)) (is_answered xs) (came (replies askers xs)) q (unanswered_is xs)
+    (contains_any (map (λ (r : ℕ × ℤ). r.0) (unanswered (asks xs) (replies askers xs))) q h) in
     (sym (ap (λ l. is_among l q) (came_is threads askers xs legal)) ∙ k.0, k.1)
 
 -- ---- how many askers are left
@@ -222,7 +225,8 @@ record IsTold (askers : ℕ) (f : RequestFacts) (told : ℕ) : Type 0 where
 
 said_more : (askers : ℕ) (xs : List Event) (e : Event)
     → left_after askers (replies askers (xs ++ e ∷ [])) ≡ fold left_by_reply (left_after askers (replies askers xs)) (replies_after askers xs (e ∷ []))
-said_more askers xs e = ap (fold left_by_reply askers) (replies_more askers xs (e ∷ [])) ∙ fold-append left_by_reply askers (replies askers xs) (replies_after askers xs (e ∷ []))
+said_more askers xs e = ap (fold left_by_reply askers) (replies_more askers xs (e ∷ []))
+    ∙ fold-append left_by_reply askers (replies askers xs) (replies_after askers xs (e ∷ []))
 
 one_told : (threads askers : ℕ) (xs : List Event) (e : Event) (told : ℕ) → Legal threads askers xs → IsLegalAfter threads askers xs e
     → IsTold askers (request_facts xs) told
@@ -249,7 +253,8 @@ is_told threads askers xs h =
     (λ ys e k is. (
       legal_next threads askers ys e k.0 is,
       subst (λ f. IsTold askers f (left_after askers (replies askers (ys ++ e ∷ [])))) (sym (request_grown ys e))
-          (subst (IsTold askers (request_added e (request_facts ys))) (sym (said_more askers ys e)) (one_told threads askers ys e (left_after askers (replies askers ys)) k.0 is k.1)),
+          (subst (IsTold askers (request_added e (request_facts ys))) (sym (said_more askers ys e))
+          (one_told threads askers ys e (left_after askers (replies askers ys)) k.0 is k.1)),
     )) xs h).1
 
 -- ---- what comes to a drain
@@ -324,9 +329,11 @@ serves threads askers xs legal =
     ∙ (unfetched_numbers s st.numbered st.few ∙ sym (made_numbers s st.numbered))) in
     let bare = λ (q : ℕ). not (is_answered xs q) in
     let open_ones : length (unanswered (asks xs) (replies askers xs ++ Drained (brought askers xs) ∷ [])) ≡ count_by is_bare s.made =
-    ap (λ l. length (filter (is_unanswered (asks xs)) l)) (flat_map-append requests_in (replies askers xs) (Drained (brought askers xs) ∷ []) ∙ ap (λ l. came (replies askers xs) ++ l) (append-nil (request_pairs xs)))
+    ap (λ l. length (filter (is_unanswered (asks xs)) l)) (flat_map-append requests_in (replies askers xs) (Drained (brought askers xs) ∷ [])
+    ∙ ap (λ l. came (replies askers xs) ++ l) (append-nil (request_pairs xs)))
     ∙ (length-filter (is_unanswered (asks xs)) (came (replies askers xs) ++ request_pairs xs)
-    ∙ (count_same (is_unanswered (asks xs)) (λ r. bare r.0) (came (replies askers xs) ++ request_pairs xs) (0, pos 0) (λ i lt. unanswered_is xs (get_or (came (replies askers xs) ++ request_pairs xs) i (0, pos 0)))
+    ∙ (count_same (is_unanswered (asks xs)) (λ r. bare r.0) (came (replies askers xs) ++ request_pairs xs) (0, pos 0)
+    (λ i lt. unanswered_is xs (get_or (came (replies askers xs) ++ request_pairs xs) i (0, pos 0)))
     ∙ (sym (count_mapped bare first (came (replies askers xs) ++ request_pairs xs))
     ∙ (ap (count_by bare) all
     ∙ (count_mapped bare (λ (m : Made). m.no) s.made

@@ -49,13 +49,15 @@ runs_less : (t : ℕ) (done done' : ℕ → Bool) → ((id : ℕ) → done id �
 runs_less t done done' more [] h = refl
 runs_less t done done' more (b ∷ bs) h =
     let k = or_parts (b.thread == t && not (done b.id)) (runs_of t done bs) h in
-    or_both (b.thread == t && not (done' b.id)) (runs_of t done' bs) (one_less (b.thread == t) (done b.id) (done' b.id) (more b.id) k.0) (runs_less t done done' more bs k.1)
+    or_both (b.thread == t && not (done' b.id)) (runs_of t done' bs) (one_less (b.thread == t) (done b.id) (done' b.id) (more b.id) k.0)
+    (runs_less t done done' more bs k.1)
 
 -- events of other threads run nothing on this one
 runs_none : (t : ℕ) (done : ℕ → Bool) (ys : List Event) → Each (IsNotByThread t) ys → runs_of t done (begun ys) ≡ false
 runs_none t done [] h = refl
 runs_none t done (event.Submit id work helper ∷ ys) h = runs_none t done ys h.1
-runs_none t done (event.Start thread id ∷ ys) h = or_both (thread == t && not (done id)) (runs_of t done (begun ys)) (ap (λ b. b && not (done id)) h.0) (runs_none t done ys h.1)
+runs_none t done (event.Start thread id ∷ ys) h = or_both (thread == t && not (done id)) (runs_of t done (begun ys)) (ap (λ b. b && not (done id)) h.0)
+    (runs_none t done ys h.1)
 runs_none t done (event.Finish thread id outcome ∷ ys) h = runs_none t done ys h.1
 runs_none t done (event.Request req asker num ∷ ys) h = runs_none t done ys h.1
 runs_none t done (event.AskerEnd asker ∷ ys) h = runs_none t done ys h.1
@@ -69,12 +71,14 @@ runs_append : (t : ℕ) (done : ℕ → Bool) (xs ys : List Event) → runs_of t
     → runs_of t done (begun (xs ++ ys)) ≡ false
 runs_append t done xs ys h k =
     ap (runs_of t done) (begun_append xs ys)
-    ∙ (list_any-append (λ (b : Begun). b.thread == t && not (done b.id)) (begun xs) (begun ys) ∙ or_both (runs_of t done (begun xs)) (runs_of t done (begun ys)) h k)
+    ∙ (list_any-append (λ (b : Begun). b.thread == t && not (done b.id)) (begun xs) (begun ys)
+    ∙ or_both (runs_of t done (begun xs)) (runs_of t done (begun ys)) h k)
 
 -- a thread that runs nothing still does so behind events of other threads
 pub idle_stays : (xs ys : List Event) (t : ℕ) → Each (IsNotByThread t) ys → is_running xs t ≡ false → is_running (xs ++ ys) t ≡ false
 idle_stays xs ys t others h =
-    runs_append t (is_finished (xs ++ ys)) xs ys (runs_less t (is_finished xs) (is_finished (xs ++ ys)) (λ id k. finished_more xs ys id k) (begun xs) h) (runs_none t (is_finished (xs ++ ys)) ys others)
+    runs_append t (is_finished (xs ++ ys)) xs ys (runs_less t (is_finished xs) (is_finished (xs ++ ys)) (λ id k. finished_more xs ys id k) (begun xs) h)
+    (runs_none t (is_finished (xs ++ ys)) ys others)
 
 pub idle_behind : (t : ℕ) (seen whole : List Event) → Behind (IsNotByThread t) seen whole → is_running seen t ≡ false → is_running whole t ≡ false
 idle_behind t seen whole b idle = ap (λ l. is_running l t) b.whole_is ∙ idle_stays seen b.rest t b.others idle
@@ -142,7 +146,9 @@ finishes_of threads askers history h =
     legal_keeps threads askers (λ xs. Each (IsOfBegun (begun xs)) xs) tt
     (λ xs e k is.
     subst (λ bs. Each (IsOfBegun bs) (xs ++ e ∷ [])) (sym (begun_append xs (e ∷ [])))
-    (each_join (IsOfBegun (begun xs ++ begun (e ∷ []))) xs (e ∷ []) (each_more (IsOfBegun (begun xs)) (IsOfBegun (begun xs ++ begun (e ∷ []))) (λ x. of_more (begun xs) (begun (e ∷ [])) x) xs k) (of_more (begun xs) (begun (e ∷ [])) e (of_legal threads askers xs e is), tt)))
+    (each_join (IsOfBegun (begun xs ++ begun (e ∷ []))) xs (e ∷ [])
+    (each_more (IsOfBegun (begun xs)) (IsOfBegun (begun xs ++ begun (e ∷ []))) (λ x. of_more (begun xs) (begun (e ∷ [])) x) xs k)
+    (of_more (begun xs) (begun (e ∷ [])) e (of_legal threads askers xs e is), tt)))
     history h
 
 -- a work that a thread began is found with it
@@ -150,7 +156,8 @@ found_begun : (threads askers : ℕ) (history : List Event) (t id : ℕ) → Leg
     → find (λ (b : Begun). b.id == id) (begun history) ≡ Some (record { thread = t; id = id })
 found_begun threads askers history t id h k =
     let st = (left_by threads askers history h).stands in
-    let one = any_one (IsBegunOnce (handed history) (filter_map reserved_in history) (begun history)) (λ (b : Begun). b.thread == t && b.id == id) (begun history) st.begun_once k in
+    let one = any_one (IsBegunOnce (handed history) (filter_map reserved_in history) (begun history)) (λ (b : Begun). b.thread == t && b.id == id)
+    (begun history) st.begun_once k in
     let b = one.0 in
     let parts = and_parts (b.thread == t) (b.id == id) one.2 in
     let thread : b.thread ≡ t = eqb-true b.thread t parts.0 in
@@ -162,7 +169,8 @@ found_begun threads askers history t id h k =
 pub one_thread : (threads askers : ℕ) (history : List Event) (t u id : ℕ) → Legal threads askers history → was_begun t id (begun history) ≡ true
     → was_begun u id (begun history) ≡ true → u ≡ t
 one_thread threads askers history t u id h k l =
-    ap (λ (b : Begun). b.thread) (some_same (record { thread = u; id = id }) (record { thread = t; id = id }) (sym (found_begun threads askers history u id h l) ∙ found_begun threads askers history t id h k))
+    ap (λ (b : Begun). b.thread) (some_same (record { thread = u; id = id }) (record { thread = t; id = id })
+    (sym (found_begun threads askers history u id h l) ∙ found_begun threads askers history t id h k))
 
 -- events of other threads finish no work of this one
 none_finished : (bs : List Begun) (t id : ℕ) → ((u : ℕ) → was_begun u id bs ≡ true → u ≡ t) → (ys : List Event) → Each (IsOfBegun bs) ys
@@ -172,7 +180,8 @@ none_finished bs t id only (event.Submit n work helper ∷ ys) of others = none_
 none_finished bs t id only (event.Start thread n ∷ ys) of others = none_finished bs t id only ys of.1 others.1
 none_finished bs t id only (event.Finish thread n outcome ∷ ys) of others =
     or_both (n == id) (list_any (λ (f : ℕ × Outcome). f.0 == id) (finished ys))
-    (false_from_ne_true (n == id) (λ e. let mine : thread ≡ t = only thread (subst (λ m. was_begun thread m bs ≡ true) (eqb-true n id e) of.0) in absurd (cc (others.0, eq-eqb thread t mine))))
+    (false_from_ne_true (n == id) (λ e. let mine : thread ≡ t = only thread (subst (λ m. was_begun thread m bs ≡ true) (eqb-true n id e) of.0) in absurd
+    (cc (others.0, eq-eqb thread t mine))))
     (none_finished bs t id only ys of.1 others.1)
 none_finished bs t id only (event.Request req asker num ∷ ys) of others = none_finished bs t id only ys of.1 others.1
 none_finished bs t id only (event.AskerEnd asker ∷ ys) of others = none_finished bs t id only ys of.1 others.1
@@ -186,7 +195,8 @@ pub finished_parts : (xs ys : List Event) (id : ℕ) → is_finished xs id ≡ f
     → is_finished (xs ++ ys) id ≡ false
 finished_parts xs ys id h k =
     ap (list_any (λ (f : ℕ × Outcome). f.0 == id)) (finished_append xs ys)
-    ∙ (list_any-append (λ (f : ℕ × Outcome). f.0 == id) (finished xs) (finished ys) ∙ or_both (is_finished xs id) (list_any (λ (f : ℕ × Outcome). f.0 == id) (finished ys)) h k)
+    ∙ (list_any-append (λ (f : ℕ × Outcome). f.0 == id) (finished xs) (finished ys)
+    ∙ or_both (is_finished xs id) (list_any (λ (f : ℕ × Outcome). f.0 == id) (finished ys)) h k)
 
 pub value_more : (xs ys : List Handed) (id : ℕ) (o : Option Handed) (outcome : Outcome) → find (λ (w : Handed). w.id == id) xs ≡ o
     → HasValue o outcome → HasValue (find (λ (w : Handed). w.id == id) (xs ++ ys)) outcome
@@ -207,7 +217,8 @@ finish_stays threads askers xs ys t id outcome h others is =
       rule = (
         began,
         finished_parts xs ys id is.rule.1 (none_finished (begun (xs ++ ys)) t id only ys of others),
-        subst (λ l. HasValue (find (λ (w : Handed). w.id == id) l) outcome) (sym (filter_map-append handed_in xs ys)) (value_more (handed xs) (handed ys) id (work_at xs id) outcome refl is.rule.2),
+        subst (λ l. HasValue (find (λ (w : Handed). w.id == id) l) outcome) (sym (filter_map-append handed_in xs ys))
+            (value_more (handed xs) (handed ys) id (work_at xs id) outcome refl is.rule.2),
       );
     }
 
@@ -227,14 +238,17 @@ may_finish threads askers xs t id work h is has =
     let st = (left_by threads askers xs h).stands in
     let new : is_begun xs id ≡ false = started_new threads xs t id (work_at xs id) is.1 in
     let not_yet : is_finished xs id ≡ false = unfinished (begun xs) (finished xs) id st.begun_first new in
-    let here : was_begun t id (begun (event.Start t id ∷ [])) ≡ true = ap (λ b. (b && id == id) || false) (eq-eqb t t refl) ∙ ap (λ b. b || false) (eq-eqb id id refl) in
+    let here : was_begun t id (begun (event.Start t id ∷ [])) ≡ true = ap (λ b. (b && id == id) || false) (eq-eqb t t refl)
+    ∙ ap (λ b. b || false) (eq-eqb id id refl) in
     record {
       open_or_late = and_no (list_any is_close (xs ++ event.Start t id ∷ []));
       rule = (
         ap (was_begun t id) (begun_append xs (event.Start t id ∷ []))
-            ∙ (list_any-append (λ (b : Begun). b.thread == t && b.id == id) (begun xs) (begun (event.Start t id ∷ [])) ∙ (ap (λ b. was_begun t id (begun xs) || b) here ∙ or_yes (was_begun t id (begun xs)))),
+            ∙ (list_any-append (λ (b : Begun). b.thread == t && b.id == id) (begun xs) (begun (event.Start t id ∷ []))
+            ∙ (ap (λ b. was_begun t id (begun xs) || b) here ∙ or_yes (was_begun t id (begun xs)))),
         finished_parts xs (event.Start t id ∷ []) id not_yet refl,
-        subst (λ l. HasValue (find (λ (w : Handed). w.id == id) l) (value_of work)) (sym (filter_map-append handed_in xs (event.Start t id ∷ []))) (value_more (handed xs) [] id (work_at xs id) (value_of work) refl (has_value (work_at xs id) work has)),
+        subst (λ l. HasValue (find (λ (w : Handed). w.id == id) l) (value_of work)) (sym (filter_map-append handed_in xs (event.Start t id ∷ [])))
+            (value_more (handed xs) [] id (work_at xs id) (value_of work) refl (has_value (work_at xs id) work has)),
       );
     }
 
@@ -250,7 +264,8 @@ idle_again xs ys t id outcome others h =
     ∙ (ap (λ b. list_any (λ (f : ℕ × Outcome). f.0 == id) (finished ((xs ++ event.Start t id ∷ []) ++ ys)) || (b || false)) (eq-eqb id id refl)
     ∙ or_yes (list_any (λ (f : ℕ × Outcome). f.0 == id) (finished ((xs ++ event.Start t id ∷ []) ++ ys))))) in
     let more : (n : ℕ) → is_finished xs n ≡ true → done n ≡ true =
-    λ n k. finished_more ((xs ++ event.Start t id ∷ []) ++ ys) (event.Finish t id outcome ∷ []) n (finished_more (xs ++ event.Start t id ∷ []) ys n (finished_more xs (event.Start t id ∷ []) n k)) in
+    λ n k. finished_more ((xs ++ event.Start t id ∷ []) ++ ys) (event.Finish t id outcome ∷ []) n
+    (finished_more (xs ++ event.Start t id ∷ []) ys n (finished_more xs (event.Start t id ∷ []) n k)) in
     let first : runs_of t done (begun xs) ≡ false = runs_less t (is_finished xs) done more (begun xs) h in
     let mine : runs_of t done (begun (event.Start t id ∷ [])) ≡ false = or_both (t == t && not (done id)) false (one_done (t == t) (done id) now) refl in
     runs_append t done ((xs ++ event.Start t id ∷ []) ++ ys) (event.Finish t id outcome ∷ [])

@@ -8,7 +8,7 @@ use Rattle.std.proofs.lemmas.Grind.{flat_map-append}
 use Rattle.ak_labor.specs.declared.work.Outcome.{Outcome}
 use Rattle.ak_history.specs.declared.event.Event.{Event}
 use Rattle.ak_history.specs.declared.event.Event.TheVariants as event
-use Rattle.ak_history.specs.Events.{handed_in, reserved_in, ended_in, drained_in, fetched_in, answered_in, answers, is_fetched, is_answered, is_submit, is_helper_new, is_close, is_active, is_among}
+use Rattle.ak_history.specs.Events.{handed_in, reserved_in, ended_in, fetched_in, answered_in, answers, is_fetched, is_answered, is_submit, is_helper_new, is_close, is_active, is_among}
 use Rattle.ak_history.specs.Legal.{IsServed}
 use Rattle.ak_history.specs.Scheduler.{ask_of, asks}
 use Rattle.ak_pool.specs.Pools.{IsOpen}
@@ -19,7 +19,8 @@ use Rattle.ak_history_laws.proofs.Parts.{or_no, count_append}
 -- what holds of no event, and stays with each event of a thread or of an asker, holds of all their events
 pub of_others : (Q : List Event → Type 0) → Q [] → ((thread id : ℕ) (ys : List Event) → Q ys → Q (event.Start thread id ∷ ys))
     → ((thread id : ℕ) (outcome : Outcome) (ys : List Event) → Q ys → Q (event.Finish thread id outcome ∷ ys))
-    → ((q asker : ℕ) (n : ℤ) (ys : List Event) → Q ys → Q (event.Request q asker n ∷ ys)) → ((asker : ℕ) (ys : List Event) → Q ys → Q (event.AskerEnd asker ∷ ys))
+    → ((q asker : ℕ) (n : ℤ) (ys : List Event) → Q ys → Q (event.Request q asker n ∷ ys))
+    → ((asker : ℕ) (ys : List Event) → Q ys → Q (event.AskerEnd asker ∷ ys))
     → (ys : List Event) → Each IsNotByScheduler ys → Q ys
 of_others Q start one two three four [] h = start
 of_others Q start one two three four (event.Submit id work helper ∷ ys) h = absurd h.0
@@ -37,7 +38,8 @@ of_others Q start one two three four (event.Close ∷ ys) h = absurd h.0
 pub close_stays : (xs ys : List Event) → Each IsNotByScheduler ys → list_any is_close (xs ++ ys) ≡ list_any is_close xs
 close_stays xs ys h =
     list_any-append is_close xs ys
-    ∙ (ap (λ b. list_any is_close xs || b) (of_others (λ l. list_any is_close l ≡ false) refl (λ t id l k. k) (λ t id o l k. k) (λ q a n l k. k) (λ a l k. k) ys h) ∙ or_no (list_any is_close xs))
+    ∙ (ap (λ b. list_any is_close xs || b) (of_others (λ l. list_any is_close l ≡ false) refl (λ t id l k. k) (λ t id o l k. k) (λ q a n l k. k)
+    (λ a l k. k) ys h) ∙ or_no (list_any is_close xs))
 
 pub open_stays : (xs ys : List Event) → Each IsNotByScheduler ys → IsOpen xs → IsOpen (xs ++ ys)
 open_stays xs ys h is = close_stays xs ys h ∙ is
@@ -51,7 +53,12 @@ open_behind seen whole es b none is =
 -- how many works were handed in, and how many helpers were asked for
 pub submits_stay : (xs ys : List Event) → Each IsNotByScheduler ys → count_by is_submit (xs ++ ys) ≡ count_by is_submit xs
 submits_stay xs ys h =
-    omega (arith, count_append is_submit xs ys, of_others (λ l. count_by is_submit l ≡ 0) refl (λ t id l k. k) (λ t id o l k. k) (λ q a n l k. k) (λ a l k. k) ys h)
+    omega (
+      arith,
+      count_append is_submit xs ys,
+      of_others (λ l. count_by is_submit l ≡ 0) refl (λ t id l k. k) (λ t id o l k. k) (λ q a n l k. k)
+          (λ a l k. k) ys h,
+    )
 
 pub submits_behind : (seen whole es : List Event) → Behind IsNotByScheduler seen whole
     → count_by is_submit (whole ++ es) ≡ count_by is_submit seen + count_by is_submit es
@@ -60,7 +67,12 @@ submits_behind seen whole es b =
 
 pub helpers_stay : (xs ys : List Event) → Each IsNotByScheduler ys → count_by is_helper_new (xs ++ ys) ≡ count_by is_helper_new xs
 helpers_stay xs ys h =
-    omega (arith, count_append is_helper_new xs ys, of_others (λ l. count_by is_helper_new l ≡ 0) refl (λ t id l k. k) (λ t id o l k. k) (λ q a n l k. k) (λ a l k. k) ys h)
+    omega (
+      arith,
+      count_append is_helper_new xs ys,
+      of_others (λ l. count_by is_helper_new l ≡ 0) refl (λ t id l k. k) (λ t id o l k. k) (λ q a n l k. k)
+          (λ a l k. k) ys h,
+    )
 
 -- a filter that gives nothing of such events
 pub map_stays : {B : Type 0} (f : Event → Option B) → ((e : Event) → IsNotByScheduler e → f e ≡ None) → (xs ys : List Event)
@@ -68,7 +80,9 @@ pub map_stays : {B : Type 0} (f : Event → Option B) → ((e : Event) → IsNot
 map_stays f none xs ys h =
     filter_map-append f xs ys
     ∙ (ap (λ l. filter_map f xs ++ l)
-    (of_others (λ l. filter_map f l ≡ []) refl (λ t id l k. rw (none (event.Start t id) tt, k) refl) (λ t id o l k. rw (none (event.Finish t id o) tt, k) refl) (λ q a n l k. rw (none (event.Request q a n) tt, k) refl) (λ a l k. rw (none (event.AskerEnd a) tt, k) refl) ys h)
+    (of_others (λ l. filter_map f l ≡ []) refl (λ t id l k. rw (none (event.Start t id) tt, k) refl)
+    (λ t id o l k. rw (none (event.Finish t id o) tt, k) refl) (λ q a n l k. rw (none (event.Request q a n) tt, k) refl)
+    (λ a l k. rw (none (event.AskerEnd a) tt, k) refl) ys h)
     ∙ append-nil (filter_map f xs))
 
 -- what the events of the scheduler alone say
@@ -153,7 +167,8 @@ answers_stay xs ys h = map_stays answered_in answers_by xs ys h
 pub fetched_stay : (xs ys : List Event) → Each IsNotByScheduler ys → flat_map fetched_in (xs ++ ys) ≡ flat_map fetched_in xs
 fetched_stay xs ys h =
     flat_map-append fetched_in xs ys
-    ∙ (ap (λ l. flat_map fetched_in xs ++ l) (of_others (λ l. flat_map fetched_in l ≡ []) refl (λ t id l k. k) (λ t id o l k. k) (λ q a n l k. k) (λ a l k. k) ys h)
+    ∙ (ap (λ l. flat_map fetched_in xs ++ l) (of_others (λ l. flat_map fetched_in l ≡ []) refl (λ t id l k. k) (λ t id o l k. k) (λ q a n l k. k)
+    (λ a l k. k) ys h)
     ∙ append-nil (flat_map fetched_in xs))
 
 -- which helpers are granted and not ended
