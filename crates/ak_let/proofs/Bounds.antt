@@ -22,7 +22,7 @@ awaits_few (Await f args ∷ lines) = omega (arith, awaits_few lines)
 awaits_few (AwaitWork kind a ∷ lines) = omega (arith, awaits_few lines)
 awaits_few (Try f args g ∷ lines) = omega (arith, awaits_few lines)
 
-funs_few : (entry : ℕ → ℕ) (place line : ℕ) (funs : List Fun) → length (funs_procs entry place line funs) ≤ text_lines funs
+pub funs_few : (entry : ℕ → ℕ) (place line : ℕ) (funs : List Fun) → length (funs_procs entry place line funs) ≤ text_lines funs
 funs_few entry place line [] = omega arith
 funs_few entry place line (fun ∷ funs) =
     omega (

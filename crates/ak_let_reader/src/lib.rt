@@ -1,0 +1,6 @@
+//! The let dialect: its grammar, its faults, and the numbering of its names.
+#![tactic(auto)]
+
+pub mod named;
+pub mod refusal;
+pub mod rows;

@@ -1,0 +1,11 @@
+pub mod Forms
+pub mod Back
+pub mod Compiled
+pub mod Written
+pub mod Lined
+pub mod Named
+pub mod Words
+pub mod Script
+pub mod Limits
+pub mod Size
+pub mod Validity
