@@ -11,3 +11,4 @@ pub mod Once
 pub mod Out
 pub mod Requests
 pub mod Answering
+pub mod Told

@@ -1,3 +1,4 @@
+pub mod Asked
 pub mod Behind
 pub mod Brought
 pub mod Once
