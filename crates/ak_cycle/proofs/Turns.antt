@@ -22,7 +22,7 @@ use Rattle.ak_machine.specs.Job.{Progress, Over, Asking, run_job}
 use Rattle.ak_machine.specs.Run.{Machine, AtDrain, picked, progressed, went, cycle_ended, ending_by, draining}
 use Rattle.ak_machine.specs.Status.{Well, AtJobLimit, status_back, status_of}
 use Rattle.ak_state.specs.Seen.{without_pick}
-use Rattle.ak_exec.specs.Steps.{after_is, Ends}
+use Rattle.ak_state.specs.Errors.{after_is, Ends}
 use Rattle.ak_exec.specs.Worlds.{Worldly, with_state, with_pick, ran_with, RunsJob}
 use Rattle.ak_cycle.specs.Turns.{at_drain, at_close, goes_to, drained_with, turns_left, IsFinished, IsTurned, IsAsking}
 

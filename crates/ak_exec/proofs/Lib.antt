@@ -1,8 +1,8 @@
 mod Values
-pub mod Fitting
 pub mod Typed
 mod Lists
 pub mod Way
+pub mod Returned
 pub mod Picks
 mod Whole
 mod Unbuilt

@@ -3,7 +3,7 @@ use Rattle.std.proofs.Common.{◌≡◌, ◌⊎◌, inl, inr, ℕ, zero, suc, �
 use Rattle.std.specs.Prelude.{pos, Option, Some, None, All, MatchOption}
 use Rattle.std.specs.List.{AllByRecursion, AllZip, Any as AnyOf, slice_get}
 use Rattle.ak_script.specs.declared.script.Kind.{Kind}
-use Rattle.ak_script.specs.declared.script.Kind.TheVariants.{Num, Ivar, Def}
+use Rattle.ak_script.specs.declared.script.Kind.TheVariants.{Num, Ivar, Def, Mon}
 use Rattle.ak_script.specs.Kinds.{Serves}
 use Rattle.ak_frames.specs.declared.value.Value.{Value}
 use Rattle.ak_frames.specs.declared.value.Value.TheVariants as value
@@ -13,8 +13,10 @@ use Rattle.ak_program.specs.declared.statement.NumAtom.{NumAtom}
 use Rattle.ak_program.specs.declared.statement.NumAtom.TheVariants.{Literal, Local}
 use Rattle.ak_program.specs.Programs.{local as used, number, returned, IsKnown, IsPassed, Takes, IsCallable}
 use Rattle.ak_machine.specs.Effect.{local, value_of, args_of}
-use Rattle.ak_state.specs.Reads.{IsNum, IsNumAt, IsDeferred, IsBound, AreBound}
-use Rattle.ak_exec.specs.Fits.{ValueFits, ValsFit, kinds_of, CallFits, IsReturned}
+use Rattle.ak_state.specs.Reads.{IsNum, IsNumAt, IsDeferred, IsMonitor, IsBound, AreBound}
+use Rattle.ak_state.specs.Drawn.{Drawn}
+use Rattle.ak_state.specs.Fits.{ValueFits, ValsFit, kinds_of, CallFits}
+use Rattle.ak_exec.specs.Typed.{IsReturned}
 
 -- ---- kinds that serve
 any_one : (P : Kind → Type 0) (w : Kind) → AnyOf P (w ∷ []) → P w
@@ -32,16 +34,16 @@ any_two P v w h = only h.0 h.1 h.2 h.3 h.4
     only (suc zero) x lt e p = inr (subst P (sym e) p)
     only (suc (suc k)) x lt e p = absurd (omega (arith, lt))
 
-ivar_as_def : (n : ℕ) (v : Value) → ValueFits n Ivar v → ValueFits n Def v
+ivar_as_def : (n : Drawn) (v : Value) → ValueFits n Ivar v → ValueFits n Def v
 ivar_as_def n (value.Ivar i) f = f
 ivar_as_def n v f = absurd f
 
-value_serves : (n : ℕ) (kind wanted : Kind) (v : Value) → ValueFits n kind v → Serves kind wanted → ValueFits n wanted v
+value_serves : (n : Drawn) (kind wanted : Kind) (v : Value) → ValueFits n kind v → Serves kind wanted → ValueFits n wanted v
 value_serves n kind wanted v f (inl e) = subst (λ k. ValueFits n k v) e f
 value_serves n kind wanted v f (inr e) = subst (λ k. ValueFits n k v) (sym e.1) (ivar_as_def n v (subst (λ k. ValueFits n k v) e.0 f))
 
 -- ---- locals
-pub local_fits : (n : ℕ) (kinds : List Kind) (vals : List Value) (k : ℕ) (wanted : Kind) → ValsFit n kinds vals → IsKnown kinds (used k wanted)
+pub local_fits : (n : Drawn) (kinds : List Kind) (vals : List Value) (k : ℕ) (wanted : Kind) → ValsFit n kinds vals → IsKnown kinds (used k wanted)
     → (k < length vals) × ValueFits n wanted (local vals k)
 local_fits n [] vals k wanted f h = absurd h
 local_fits n (kind ∷ kinds) [] k wanted f h = absurd f
@@ -49,29 +51,37 @@ local_fits n (kind ∷ kinds) (v ∷ vals) zero wanted f h = (omega arith, value
 local_fits n (kind ∷ kinds) (v ∷ vals) (suc k) wanted f h =
     let p = local_fits n kinds vals k wanted f.1 h in let q : k < length vals = p.0 in (omega (arith, q), p.1)
 
-num_value : (n : ℕ) (v : Value) → ValueFits n Num v → IsNum v
+num_value : (n : Drawn) (v : Value) → ValueFits n Num v → IsNum v
 num_value n (value.Num z) f = tt
 num_value n v f = absurd f
 
-pub def_value : (n : ℕ) (v : Value) → ValueFits n Def v → IsDeferred n v
+pub def_value : (n : Drawn) (v : Value) → ValueFits n Def v → IsDeferred n.ivars v
 def_value n (value.Ivar i) f = f
 def_value n (value.Def i) f = f
 def_value n v f = absurd f
 
-num_returned : (n : ℕ) (v : Value) → ValueFits n Num v → IsReturned n v
+num_returned : (n : Drawn) (v : Value) → ValueFits n Num v → IsReturned n v
 num_returned n (value.Num z) f = tt
 num_returned n v f = absurd f
 
-def_returned : (n : ℕ) (v : Value) → ValueFits n Def v → IsReturned n v
+def_returned : (n : Drawn) (v : Value) → ValueFits n Def v → IsReturned n v
 def_returned n (value.Ivar i) f = f
 def_returned n (value.Def i) f = f
 def_returned n v f = absurd f
 
-pub ivar_at : (n : ℕ) (kinds : List Kind) (vals : List Value) (k : ℕ) → ValsFit n kinds vals → IsKnown kinds (used k Ivar) → IsDeferred n (local vals k)
+pub ivar_at : (n : Drawn) (kinds : List Kind) (vals : List Value) (k : ℕ) → ValsFit n kinds vals → IsKnown kinds (used k Ivar) → IsDeferred n.ivars (local vals k)
 ivar_at n kinds vals k f h = def_value n (local vals k) (ivar_as_def n (local vals k) (local_fits n kinds vals k Ivar f h).1)
 
-pub def_at : (n : ℕ) (kinds : List Kind) (vals : List Value) (k : ℕ) → ValsFit n kinds vals → IsKnown kinds (used k Def) → IsDeferred n (local vals k)
+pub def_at : (n : Drawn) (kinds : List Kind) (vals : List Value) (k : ℕ) → ValsFit n kinds vals → IsKnown kinds (used k Def) → IsDeferred n.ivars (local vals k)
 def_at n kinds vals k f h = def_value n (local vals k) (local_fits n kinds vals k Def f h).1
+
+mon_value : (n : Drawn) (v : Value) → ValueFits n Mon v → IsMonitor n.monitors v
+mon_value n (value.Mon m) f = f
+mon_value n v f = absurd f
+
+pub mon_at : (n : Drawn) (kinds : List Kind) (vals : List Value) (k : ℕ) → ValsFit n kinds vals → IsKnown kinds (used k Mon)
+    → IsMonitor n.monitors (local vals k)
+mon_at n kinds vals k f h = mon_value n (local vals k) (local_fits n kinds vals k Mon f h).1
 
 -- ---- atoms
 pub all_front : {A : Type 0} (P : A → Type 0) (xs ys : List A) → AllByRecursion P (xs ++ ys) → AllByRecursion P xs
@@ -82,11 +92,11 @@ pub all_back : {A : Type 0} (P : A → Type 0) (xs ys : List A) → AllByRecursi
 all_back P [] ys h = h
 all_back P (x ∷ xs) ys h = all_back P xs ys h.1
 
-pub num_at : (n : ℕ) (kinds : List Kind) (vals : List Value) (a : NumAtom) → ValsFit n kinds vals → AllByRecursion (IsKnown kinds) (number a) → IsNumAt vals a
+pub num_at : (n : Drawn) (kinds : List Kind) (vals : List Value) (a : NumAtom) → ValsFit n kinds vals → AllByRecursion (IsKnown kinds) (number a) → IsNumAt vals a
 num_at n kinds vals (Literal z) f h = (tt, tt)
 num_at n kinds vals (Local k) f h = let p = local_fits n kinds vals k Num f h.0 in (p.0, num_value n (local vals k) p.1)
 
-returned_local : (n : ℕ) (kinds : List Kind) (vals : List Value) (k : ℕ) → ValsFit n kinds vals
+returned_local : (n : Drawn) (kinds : List Kind) (vals : List Value) (k : ℕ) → ValsFit n kinds vals
     → IsKnown kinds (record { place = k; wanted = Num ∷ Def ∷ [] }) → (k < length vals) × IsReturned n (local vals k)
 returned_local n [] vals k f h = absurd h
 returned_local n (kind ∷ kinds) [] k f h = absurd f
@@ -98,18 +108,18 @@ returned_local n (kind ∷ kinds) (v ∷ vals) zero f h = (omega arith, by (any_
 returned_local n (kind ∷ kinds) (v ∷ vals) (suc k) f h =
     let p = returned_local n kinds vals k f.1 h in let q : k < length vals = p.0 in (omega (arith, q), p.1)
 
-pub returned_at : (n : ℕ) (kinds : List Kind) (vals : List Value) (a : NumAtom) → ValsFit n kinds vals → AllByRecursion (IsKnown kinds) (returned a)
+pub returned_at : (n : Drawn) (kinds : List Kind) (vals : List Value) (a : NumAtom) → ValsFit n kinds vals → AllByRecursion (IsKnown kinds) (returned a)
     → IsBound (length vals) a × IsReturned n (value_of vals a)
 returned_at n kinds vals (Literal z) f h = (tt, tt)
 returned_at n kinds vals (Local k) f h = returned_local n kinds vals k f h.0
 
 -- ---- arguments
-passed_bound : (n : ℕ) (kinds : List Kind) (vals : List Value) (a : NumAtom) (param : NumParam) → ValsFit n kinds vals → IsPassed kinds a param
+passed_bound : (n : Drawn) (kinds : List Kind) (vals : List Value) (a : NumAtom) (param : NumParam) → ValsFit n kinds vals → IsPassed kinds a param
     → IsBound (length vals) a
 passed_bound n kinds vals (Literal z) param f h = tt
 passed_bound n kinds vals (Local k) param f h = (local_fits n kinds vals k param.kind f h).0
 
-passed_fits : (n : ℕ) (kinds : List Kind) (vals : List Value) (a : NumAtom) (param : NumParam) → ValsFit n kinds vals → IsPassed kinds a param
+passed_fits : (n : Drawn) (kinds : List Kind) (vals : List Value) (a : NumAtom) (param : NumParam) → ValsFit n kinds vals → IsPassed kinds a param
     → ValueFits n param.kind (value_of vals a)
 passed_fits n kinds vals (Literal z) param f h = subst (λ k. ValueFits n k (value.Num z)) (sym h) tt
 passed_fits n kinds vals (Local k) param f h = (local_fits n kinds vals k param.kind f h).1
@@ -118,14 +128,14 @@ bound_cons : (m : ℕ) (a : NumAtom) (args : List NumAtom) → IsBound m a → A
 bound_cons m a args p q zero d h = p
 bound_cons m a args p q (suc k) d h = q k d (omega (arith, h))
 
-args_bound : (n : ℕ) (kinds : List Kind) (vals : List Value) (args : List NumAtom) (params : List NumParam) → ValsFit n kinds vals
+args_bound : (n : Drawn) (kinds : List Kind) (vals : List Value) (args : List NumAtom) (params : List NumParam) → ValsFit n kinds vals
     → AllZip (IsPassed kinds) args params → AreBound vals args
 args_bound n kinds vals [] params f h = λ k d p. absurd (omega (arith, p))
 args_bound n kinds vals (a ∷ args) [] f h = absurd h
 args_bound n kinds vals (a ∷ args) (param ∷ params) f h =
     bound_cons (length vals) a args (passed_bound n kinds vals a param f h.0) (args_bound n kinds vals args params f h.1)
 
-args_fit : (n : ℕ) (kinds : List Kind) (vals : List Value) (args : List NumAtom) (params : List NumParam) → ValsFit n kinds vals
+args_fit : (n : Drawn) (kinds : List Kind) (vals : List Value) (args : List NumAtom) (params : List NumParam) → ValsFit n kinds vals
     → AllZip (IsPassed kinds) args params → ValsFit n (kinds_of params) (args_of vals args)
 args_fit n kinds vals [] [] f h = tt
 args_fit n kinds vals [] (param ∷ params) f h = absurd h
@@ -133,61 +143,45 @@ args_fit n kinds vals (a ∷ args) [] f h = absurd h
 args_fit n kinds vals (a ∷ args) (param ∷ params) f h = (passed_fits n kinds vals a param f h.0, args_fit n kinds vals args params f h.1)
 
 -- ---- calls
-call_bound_at : (o : Option NumProc) (n : ℕ) (kinds : List Kind) (vals : List Value) (proc front : ℕ) (args : List NumAtom) → ValsFit n kinds vals
+call_bound_at : (o : Option NumProc) (n : Drawn) (kinds : List Kind) (vals : List Value) (proc front : ℕ) (args : List NumAtom) → ValsFit n kinds vals
     → MatchOption o ⊥ (λ (p : NumProc). Takes kinds p.params (record { place = proc; front = front; args = args })) → AreBound vals args
 call_bound_at None n kinds vals proc front args f h = absurd h
 call_bound_at (Some p) n kinds vals proc front args f h = args_bound n kinds vals args (drop front p.params) f h.args
 
-pub call_bound : (program : List NumProc) (n : ℕ) (kinds : List Kind) (vals : List Value) (proc front : ℕ) (args : List NumAtom) → ValsFit n kinds vals
+pub call_bound : (program : List NumProc) (n : Drawn) (kinds : List Kind) (vals : List Value) (proc front : ℕ) (args : List NumAtom) → ValsFit n kinds vals
     → IsCallable program kinds (record { place = proc; front = front; args = args }) → AreBound vals args
 call_bound program n kinds vals proc front args f h = call_bound_at (slice_get program proc) n kinds vals proc front args f h
 
-call_fits_at : (o : Option NumProc) (n : ℕ) (kinds : List Kind) (vals : List Value) (proc : ℕ) (args : List NumAtom) → ValsFit n kinds vals
+call_fits_at : (o : Option NumProc) (n : Drawn) (kinds : List Kind) (vals : List Value) (proc : ℕ) (args : List NumAtom) → ValsFit n kinds vals
     → MatchOption o ⊥ (λ (p : NumProc). Takes kinds p.params (record { place = proc; front = 0; args = args }))
     → MatchOption o ⊥ (λ (p : NumProc). ValsFit n (kinds_of p.params) (args_of vals args))
 call_fits_at None n kinds vals proc args f h = absurd h
 call_fits_at (Some p) n kinds vals proc args f h = args_fit n kinds vals args p.params f h.args
 
 -- a call with its arguments alone
-pub call_fits : (program : List NumProc) (n : ℕ) (kinds : List Kind) (vals : List Value) (proc : ℕ) (args : List NumAtom) → ValsFit n kinds vals
+pub call_fits : (program : List NumProc) (n : Drawn) (kinds : List Kind) (vals : List Value) (proc : ℕ) (args : List NumAtom) → ValsFit n kinds vals
     → IsCallable program kinds (record { place = proc; front = 0; args = args }) → CallFits program n proc (args_of vals args)
 call_fits program n kinds vals proc args f h = call_fits_at (slice_get program proc) n kinds vals proc args f h
 
-first_fits : (n : ℕ) (kinds : List Kind) (vals : List Value) (proc : ℕ) (params : List NumParam) (args : List NumAtom) → ValsFit n kinds vals
+first_fits : (n : Drawn) (kinds : List Kind) (vals : List Value) (proc : ℕ) (params : List NumParam) (args : List NumAtom) → ValsFit n kinds vals
     → Takes kinds params (record { place = proc; front = 1; args = args }) → ValsFit n (kinds_of params) (value.Num (pos 0) ∷ args_of vals args)
 first_fits n kinds vals proc [] args f h = absurd (omega (arith, h.enough))
 first_fits n kinds vals proc (param ∷ params) args f h =
     (subst (λ k. ValueFits n k (value.Num (pos 0))) (sym h.front.0) tt, args_fit n kinds vals args params f h.args)
 
-value_call_at : (o : Option NumProc) (n : ℕ) (kinds : List Kind) (vals : List Value) (proc : ℕ) (args : List NumAtom) → ValsFit n kinds vals
+value_call_at : (o : Option NumProc) (n : Drawn) (kinds : List Kind) (vals : List Value) (proc : ℕ) (args : List NumAtom) → ValsFit n kinds vals
     → MatchOption o ⊥ (λ (p : NumProc). Takes kinds p.params (record { place = proc; front = 1; args = args }))
     → MatchOption o ⊥ (λ (p : NumProc). ValsFit n (kinds_of p.params) (value.Num (pos 0) ∷ args_of vals args))
 value_call_at None n kinds vals proc args f h = absurd h
 value_call_at (Some p) n kinds vals proc args f h = first_fits n kinds vals proc p.params args f h
 
 -- a call with a number in front of its arguments
-pub value_call_fits : (program : List NumProc) (n : ℕ) (kinds : List Kind) (vals : List Value) (proc : ℕ) (args : List NumAtom) → ValsFit n kinds vals
+pub value_call_fits : (program : List NumProc) (n : Drawn) (kinds : List Kind) (vals : List Value) (proc : ℕ) (args : List NumAtom) → ValsFit n kinds vals
     → IsCallable program kinds (record { place = proc; front = 1; args = args }) → CallFits program n proc (value.Num (pos 0) ∷ args_of vals args)
 value_call_fits program n kinds vals proc args f h = value_call_at (slice_get program proc) n kinds vals proc args f h
 
--- ---- values as ivars are drawn and renamed
-value_grows : (n n' : ℕ) (kind : Kind) (v : Value) → n ≤ n' → ValueFits n kind v → ValueFits n' kind v
-value_grows n n' Num (value.Num z) h f = tt
-value_grows n n' Ivar (value.Ivar i) h f = omega (arith, h, f)
-value_grows n n' Def (value.Ivar i) h f = omega (arith, h, f)
-value_grows n n' Def (value.Def i) h f = omega (arith, h, f)
-value_grows n n' Num v h f = absurd f
-value_grows n n' Ivar v h f = absurd f
-value_grows n n' Def v h f = absurd f
-value_grows n n' kind v h f = absurd f
-
-pub vals_grow : (n n' : ℕ) (kinds : List Kind) (vals : List Value) → n ≤ n' → ValsFit n kinds vals → ValsFit n' kinds vals
-vals_grow n n' [] [] h f = tt
-vals_grow n n' (kind ∷ kinds) (v ∷ vals) h f = (value_grows n n' kind v h f.0, vals_grow n n' kinds vals h f.1)
-vals_grow n n' [] (v ∷ vals) h f = absurd f
-vals_grow n n' (kind ∷ kinds) [] h f = absurd f
-
-pub vals_push : (n : ℕ) (kinds : List Kind) (vals : List Value) (kind : Kind) (v : Value) → ValsFit n kinds vals → ValueFits n kind v
+-- ---- one more value
+pub vals_push : (n : Drawn) (kinds : List Kind) (vals : List Value) (kind : Kind) (v : Value) → ValsFit n kinds vals → ValueFits n kind v
     → ValsFit n (kinds ++ kind ∷ []) (vals ++ v ∷ [])
 vals_push n [] [] kind v f p = (p, tt)
 vals_push n (x ∷ kinds) (y ∷ vals) kind v f p = (f.0, vals_push n kinds vals kind v f.1 p)

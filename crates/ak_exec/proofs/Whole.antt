@@ -14,12 +14,13 @@ use Rattle.ak_machine.specs.Deferred.{noting}
 use Rattle.ak_machine.specs.Cycle.{cycle_begun}
 use Rattle.ak_machine.specs.Mapped.{job_mapped}
 use Rattle.ak_state.specs.Seen.{Seen, doing, without_pick}
-use Rattle.ak_exec.specs.Fits.{JobFits, Fits}
+use Rattle.ak_state.specs.Drawn.{drawn}
+use Rattle.ak_state.specs.Fits.{JobFits, Fits}
 use Rattle.ak_holders.specs.Told.{IsOther}
 use Rattle.ak_holders.specs.Held.{HeldBy, HeldBeside}
 use Rattle.ak_holders.proofs.Carry.{none_held, beside_noted, beside_cycle, pick_beside}
 use Rattle.ak_exec.specs.Worlds.{IsWhole, world_of}
-use Rattle.ak_exec.proofs.Fitting.{Grows, cycle_grows, noted_grows}
+use Rattle.ak_state.proofs.Fitting.{Grows, cycle_grows, noted_grows}
 use Rattle.ak_exec.proofs.Picks.{picked_grows, left_fits, pick_fits}
 
 -- the parts are others, which hold as many ivars or more
@@ -33,8 +34,8 @@ grown_whole program config picked ran s s' e g k h = record {
   limit = h.limit;
   askers = h.askers;
   fits = g.fits;
-  picked = subst (λ ns. IfSome (option_map (job_mapped (name_in ns)) picked) (JobFits program.procs (length s'.plain.cells.ivars))) (sym e)
-      (picked_grows program.procs (length s.plain.cells.ivars) (length s'.plain.cells.ivars) g.more
+  picked = subst (λ ns. IfSome (option_map (job_mapped (name_in ns)) picked) (JobFits program.procs (drawn s'.plain))) (sym e)
+      (picked_grows program.procs (drawn s.plain) (drawn s'.plain) g.more
       (option_map (job_mapped (name_in s.names)) picked) h.picked);
   held = subst (λ ns. HeldBeside program.procs (option_map (job_mapped (name_in ns)) picked) s'.plain) (sym e) (k h.held);
 }
@@ -65,8 +66,8 @@ picked_whole program config picked ran ran' s s' e p h =
       askers = h.askers;
       fits = left_fits program.procs s.plain h.fits;
       picked =
-          subst (λ (o : Option (Job Task)). IfSome o (JobFits program.procs (length s.plain.cells.ivars))) (sym p)
-          (pick_fits program.procs (length s.plain.cells.ivars) s.plain h.fits);
+          subst (λ (o : Option (Job Task)). IfSome o (JobFits program.procs (drawn s.plain))) (sym p)
+          (pick_fits program.procs (drawn s.plain) s.plain h.fits);
       held = subst (λ (o : Option (Job Task)). HeldBeside program.procs o (without_pick s.plain)) (sym p) (pick_beside program.procs s.plain h.held);
     })
 
@@ -77,7 +78,16 @@ emptied_whole program config picked ran s s' e h = record {
   built = h.built;
   limit = h.limit;
   askers = h.askers;
-  fits = subst (Fits program.procs) (sym e) (record { handlers = tt; normal = tt; low = tt });
+  fits =
+      subst (Fits program.procs) (sym e)
+      (record {
+        handlers = tt;
+        normal = tt;
+        low = tt;
+        monitors = (record { next_errors = tt; actors = tt }, tt);
+        purposes = tt;
+        paired = refl;
+      });
   picked = tt;
   held = subst (HeldBy program.procs []) (sym e) (none_held program.procs config.limit config.askers);
 }

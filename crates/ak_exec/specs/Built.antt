@@ -6,7 +6,7 @@ use Rattle.ak_program.specs.declared.program.NumProc.{NumProc}
 use Rattle.ak_program.specs.declared.statement.NumStmt.{NumStmt}
 use Rattle.ak_program.specs.declared.statement.NumStmt.TheVariants as stmt
 
--- numbers, ivars, handlers, calls and errors; not yet groups, the clock, monitors, throttles, pipes and works
+-- numbers, ivars, handlers, calls, monitors and errors; not yet groups, the clock, throttles, pipes and works
 abbrev pub IsBuiltStmt : NumStmt → Type 0
 IsBuiltStmt (stmt.Set x a op b) = Unit {0}
 IsBuiltStmt (stmt.Print a) = Unit {0}
@@ -18,7 +18,14 @@ IsBuiltStmt (stmt.Bind r d proc args) = Unit {0}
 IsBuiltStmt (stmt.Sched proc args) = Unit {0}
 IsBuiltStmt (stmt.Low proc args) = Unit {0}
 IsBuiltStmt (stmt.Never r) = Unit {0}
+IsBuiltStmt (stmt.Monitor m) = Unit {0}
+IsBuiltStmt (stmt.Within m proc args) = Unit {0}
+IsBuiltStmt (stmt.Detach m) = Unit {0}
+IsBuiltStmt (stmt.OnError m proc args) = Unit {0}
+IsBuiltStmt (stmt.NextError r m) = Unit {0}
 IsBuiltStmt (stmt.Raise a) = Unit {0}
+IsBuiltStmt (stmt.Send m a) = Unit {0}
+IsBuiltStmt (stmt.Try r proc args catch catch_args kind) = Unit {0}
 IsBuiltStmt (stmt.Ret a) = Unit {0}
 IsBuiltStmt _ = ⊥
 

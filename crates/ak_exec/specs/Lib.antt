@@ -1,5 +1,5 @@
 pub mod Ready
 pub mod Steps
 pub mod Built
-pub mod Fits
+pub mod Typed
 pub mod Worlds

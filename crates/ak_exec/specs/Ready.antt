@@ -6,7 +6,7 @@ use Rattle.ak_program.specs.declared.program.NumPrefix.TheVariants.{If, Unless}
 use Rattle.ak_program.specs.declared.statement.NumStmt.{NumStmt}
 use Rattle.ak_program.specs.declared.statement.NumStmt.TheVariants as stmt
 use Rattle.ak_machine.specs.State.{State}
-use Rattle.ak_state.specs.Reads.{IsNumAt, IsDeferredAt, IsBound, AreBound}
+use Rattle.ak_state.specs.Reads.{IsNumAt, IsDeferredAt, IsMonitorAt, IsBound, AreBound}
 
 -- the number of a prefix
 abbrev pub IsTold : List Value → Option NumPrefix → Type 0
@@ -26,6 +26,13 @@ IsReady s vals (stmt.Bind r d proc args) = IsDeferredAt s vals d × AreBound val
 IsReady s vals (stmt.Sched proc args) = AreBound vals args
 IsReady s vals (stmt.Low proc args) = AreBound vals args
 IsReady s vals (stmt.Never r) = Unit {0}
+IsReady s vals (stmt.Monitor m) = Unit {0}
+IsReady s vals (stmt.Within m proc args) = IsMonitorAt s vals m × AreBound vals args
+IsReady s vals (stmt.Detach m) = IsMonitorAt s vals m
+IsReady s vals (stmt.OnError m proc args) = IsMonitorAt s vals m × AreBound vals args
+IsReady s vals (stmt.NextError r m) = IsMonitorAt s vals m
 IsReady s vals (stmt.Raise a) = IsNumAt vals a
+IsReady s vals (stmt.Send m a) = IsMonitorAt s vals m × IsNumAt vals a
+IsReady s vals (stmt.Try r proc args catch catch_args kind) = AreBound vals args × AreBound vals catch_args
 IsReady s vals (stmt.Ret a) = IsBound (length vals) a
 IsReady s vals other = ⊥

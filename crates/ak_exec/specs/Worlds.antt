@@ -1,5 +1,5 @@
 -- What contracts see of a world.
-use Rattle.std.specs.Prelude.{ℕ, ◌+◌, ◌≡◌, ◌≤◌, [], ◌⊎◌, length, false, Option, Some, None, IsSome, IfSome}
+use Rattle.std.specs.Prelude.{ℕ, ◌+◌, ◌≡◌, ◌≤◌, [], ◌⊎◌, false, Option, Some, None, IsSome, IfSome}
 use Rattle.std.specs.Option.{option_map}
 use Rattle.ak_rings.specs.declared.job.Job.{Job}
 use Rattle.ak_frames.specs.declared.frame.Task.{Task}
@@ -13,10 +13,11 @@ use Rattle.ak_machine.specs.Deferred.{called}
 use Rattle.ak_machine.specs.Mapped.{job_mapped}
 use Rattle.ak_machine.specs.Job.{Over, run_job}
 use Rattle.ak_state.specs.Seen.{Seen, without_pick}
-use Rattle.ak_exec.specs.Steps.{after_is}
 use Rattle.ak_program.specs.Programs.{NumProgram}
 use Rattle.ak_exec.specs.Built.{AreBuilt}
-use Rattle.ak_exec.specs.Fits.{JobFits, Fits}
+use Rattle.ak_state.specs.Errors.{after_is}
+use Rattle.ak_state.specs.Drawn.{drawn}
+use Rattle.ak_state.specs.Fits.{JobFits, Fits}
 use Rattle.ak_holders.specs.Held.{HeldBeside}
 
 -- the program and the settings, the plain state, the job that was picked and has not run, and how many jobs were picked
@@ -44,7 +45,7 @@ pub record IsWhole (w : Worldly) : Type 0 where
   pub limit : 1 ≤ w.config.limit
   pub askers : ServesAskers w.program w.config.askers
   pub fits : Fits w.program.procs w.plain
-  pub picked : IfSome w.picked (JobFits w.program.procs (length w.plain.cells.ivars))
+  pub picked : IfSome w.picked (JobFits w.program.procs (drawn w.plain))
   pub held : HeldBeside w.program.procs w.picked w.plain
 
 -- how many jobs were picked, with one more where there is a pick

@@ -47,7 +47,14 @@ fn is_built(stmt: &NumStmt) -> bool
             | NumStmt::Sched { .. }
             | NumStmt::Low { .. }
             | NumStmt::Never { .. }
+            | NumStmt::Monitor { .. }
+            | NumStmt::Within { .. }
+            | NumStmt::Detach { .. }
+            | NumStmt::OnError { .. }
+            | NumStmt::NextError { .. }
             | NumStmt::Raise { .. }
+            | NumStmt::Send { .. }
+            | NumStmt::Try { .. }
             | NumStmt::Ret { .. }
     )
 }

@@ -1,8 +1,11 @@
-//! The scheduler's state, and how one job of it runs.
+//! The scheduler's state with its program, and how one job of it runs.
 #![tactic(auto)]
 
 mod arithmetic;
 pub mod built;
+mod frames;
 mod job;
+mod returns;
 mod statement;
+mod statements;
 pub mod world;

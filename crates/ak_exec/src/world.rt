@@ -7,10 +7,11 @@ ghost use Rattle.ak_rings.specs.Queues.{pick_of, has_pick};
 ghost use Rattle.ak_machine.specs.Cycle.{cycle_begun, has_more, is_stuck, is_quiet, with_left};
 ghost use Rattle.ak_machine.specs.Deferred.{noting};
 ghost use Rattle.ak_exec.specs.Built.{AreBuilt};
-ghost use Rattle.ak_exec.specs.Steps.{Ends};
+ghost use Rattle.ak_state.specs.Errors.{Ends};
 ghost use Rattle.ak_exec.specs.Worlds.{with_pick, with_state, first_state, ServesAskers, RunsJob};
 
 use crate::job::run_job;
+use ak_state::parts::Parts;
 use ak_base::list::{Items, NoMemory};
 use ak_base::number::{Ctx, JobNo, MonNo};
 use ak_frames::frame::{Frame, Ret, Task};
@@ -18,7 +19,6 @@ use ak_labor::config::Config;
 use ak_machine::flow::Flow;
 use ak_program::program::Program;
 use ak_rings::job::Job;
-use ak_state::parts::Parts;
 use ak_trace::entry::{Ending, Entry, Trace};
 use std::alloc::Global;
 use std::marker::Model;
@@ -27,7 +27,6 @@ use std::marker::Model;
 /// not run yet, and how many jobs were picked. Contracts see the plain state that the parts stand for. Own.
 #[derive(Debug, Drop)]
 pub struct World {
-    alloc: Global,
     program: Program,
     config: Config,
     parts: Parts,
@@ -66,7 +65,7 @@ impl World {
               ran = 0;
             }) }
     {
-        let mut parts = Parts::make(alloc, config.limit, config.askers);
+        let mut parts = Parts::make(alloc, config.limit, config.askers)?;
         let ctx = Ctx {
             mon: MonNo::new(0),
             low: false,
@@ -78,7 +77,6 @@ impl World {
         };
         parts.enqueue(ctx, Task { frame, value: None })?;
         Ok(World {
-            alloc,
             program,
             config,
             parts,
@@ -142,7 +140,7 @@ pub fn run_frame(world: &mut World) -> Result<Flow, NoMemory>
     match run_job(&world.program, &mut world.parts, job) {
         Ok(flow) => Ok(flow),
         Err(e) => {
-            world.parts = Parts::make(world.alloc, world.config.limit, world.config.askers);
+            world.parts.reset(world.config.limit, world.config.askers);
             Err(e)
         }
     }

@@ -1,6 +1,6 @@
 //! The monitors of a run, and the way of an error up from one of them.
 
-ghost use Rattle.std.specs.Prelude.{◌≡◌, ◌+◌, ◌-◌, ◌<◌, ◌≤◌, ◌^◌, ◌==◌, ◌||◌, [], ◌∷◌, length, slice_get, Some, None, OnOk, OnErr, IfOk, MatchOption, if◌then◌else◌};
+ghost use Rattle.std.specs.Prelude.{◌≡◌, ◌+◌, ◌-◌, ◌<◌, ◌≤◌, ◌^◌, ◌==◌, ◌||◌, [], ◌∷◌, length, slice_get, Some, None, OnOk, OnErr, IfOk, IfSome, MatchOption, if◌then◌else◌};
 ghost use Rattle.ak_base.specs.Lists.{first_of};
 ghost use Rattle.ak_monitor.specs.Monitors as plain;
 ghost use Rattle.ak_monitor.specs.Ways.{IsWay, is_detached};
@@ -85,6 +85,7 @@ impl<H> Tree<H> {
     pub fn parent(&self, m: MonNo) -> Option<MonNo>
         requires { m < length self.now }
         ensures parent { result ≡ plain.parent_of m self.now }
+        ensures older { IfSome result (λ p. p < m) }
         ensures path { MatchOption result (plain.path self.now m ≡ m ∷ []) (λ p. plain.path self.now m ≡ m ∷ plain.path self.now p) }
     {
         if m.number() == 0 {

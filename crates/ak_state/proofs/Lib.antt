@@ -1,3 +1,7 @@
-mod Stands
+pub mod Stands
 mod Locals
 mod Picks
+pub mod Fitting
+pub mod Monitors
+pub mod Groups
+pub mod Errors

@@ -7,7 +7,7 @@ use Rattle.ak_frames.specs.declared.value.Value.{Value}
 use Rattle.ak_frames.specs.declared.value.Value.TheVariants.{Num, Ivar, Def, Mon, Pipe, Thr, Event, Helper}
 use Rattle.ak_machine.specs.Effect.{local, number_of, name_of}
 use Rattle.ak_machine.specs.Mapped.{value_mapped, values_mapped}
-use Rattle.ak_state.specs.Reads.{IsNum, IsName, IsDeferred}
+use Rattle.ak_state.specs.Reads.{IsNum, IsName, IsDeferred, IsMon, IsMonitor}
 
 pub local_mapped : (f : ℕ → ℕ) (vals : List Value) (k : ℕ) → local (values_mapped f vals) k ≡ value_mapped f (local vals k)
 local_mapped f vals k = get_or-map (value_mapped f) vals k (Num (pos 0))
@@ -58,3 +58,27 @@ deferred_bound f n (v ∷ vals) (suc k) h = let p : k < length vals = deferred_b
 
 pub named_bound : (f : ℕ → ℕ) (vals : List Value) (k : ℕ) → k < length (values_mapped f vals) → k < length vals
 named_bound f vals k h = subst (λ n. k < n) (length-map vals (value_mapped f)) h
+
+-- a monitor keeps its number
+pub record IsThatMonitor (f : ℕ → ℕ) (n : ℕ) (v : Value) : Type 0 where
+  pub is_mon : IsMon v
+  pub name : name_of v ≡ name_of (value_mapped f v)
+  pub drawn : name_of v < n
+
+IsMonitor-mapped : (f : ℕ → ℕ) (n : ℕ) (v : Value) → IsMonitor n (value_mapped f v) → IsThatMonitor f n v
+IsMonitor-mapped f n (Num z) h = absurd h
+IsMonitor-mapped f n (Ivar i) h = absurd h
+IsMonitor-mapped f n (Def i) h = absurd h
+IsMonitor-mapped f n (Mon m) h = record { is_mon = tt; name = refl; drawn = h }
+IsMonitor-mapped f n (Pipe p) h = absurd h
+IsMonitor-mapped f n (Thr t) h = absurd h
+IsMonitor-mapped f n (Event e) h = absurd h
+IsMonitor-mapped f n (Helper x) h = absurd h
+
+pub monitor_named : (f : ℕ → ℕ) (n : ℕ) (vals : List Value) (k : ℕ) → IsMonitor n (local (values_mapped f vals) k) → IsThatMonitor f n (local vals k)
+monitor_named f n vals k h = IsMonitor-mapped f n (local vals k) (subst (IsMonitor n) (local_mapped f vals k) h)
+
+pub monitor_bound : (f : ℕ → ℕ) (n : ℕ) (vals : List Value) (k : ℕ) → IsMonitor n (local (values_mapped f vals) k) → k < length vals
+monitor_bound f n [] k h = absurd h
+monitor_bound f n (v ∷ vals) zero h = omega arith
+monitor_bound f n (v ∷ vals) (suc k) h = let p : k < length vals = monitor_bound f n vals k h in omega (arith, p)

@@ -23,11 +23,12 @@ use Rattle.ak_machine.specs.Deferred.{enqueue, number_at, is_empty, with_ivar, f
 use Rattle.ak_machine.specs.Mapped.{task_mapped, frame_mapped, state_named}
 use Rattle.ak_machine.proofs.Mapped.{enqueue_named, fill_empty_named, register_at_named, state_named_law}
 use Rattle.ak_machine.proofs.Names.{name_in-own, name_in-renamed, trimmed-fresh, name_in-trimmed, name_in-drawn}
+use Rattle.ak_state.specs.declared.lists.Lists.{Lists}
 use Rattle.ak_state.specs.Seen.{Seen, IsKept, other_lists, raw_state, seen, doing, enqueued_for, with_jobs, without_pick}
 use Rattle.ak_state.proofs.Picks.{picked_mapped, no_job_mapped}
 
 -- a state beside names
-abbrev seen_as : List ℕ → State → Seen
+abbrev pub seen_as : List ℕ → State → Seen
 seen_as names s = record { plain = s; names = names }
 
 pub seen_enqueue : (cells : NamedCells Frame) (q q' : Queues Task) (t t' : List Entry) (lists : State) (ctx : Ctx) (task : Task) →
@@ -267,9 +268,9 @@ more_by : (b c : Bool) → b ≡ c → not b ≡ (not c || false) || false
 more_by true c e = rw (sym e) refl
 more_by false c e = rw (sym e) refl
 
-pub more_seen : (cells : NamedCells Frame) (q : Queues Task) (t : List Entry) (left : ℕ)
-    → not (has_no_job q) ≡ has_more (seen cells q t (other_lists left)).plain
-more_seen cells q t left = more_by (has_no_job q) (has_no_job (seen cells q t (other_lists left)).plain.queues) (sym (no_job_mapped (name_in (trimmed cells.names)) q))
+pub more_seen : (cells : NamedCells Frame) (q : Queues Task) (t : List Entry) (lists : Lists)
+    → not (has_no_job q) ≡ has_more (seen cells q t (other_lists lists)).plain
+more_seen cells q t lists = more_by (has_no_job q) (has_no_job (seen cells q t (other_lists lists)).plain.queues) (sym (no_job_mapped (name_in (trimmed cells.names)) q))
 
 -- an empty result is not found full
 never_by : (b : Bool) (o p : Option ℤ) → o ≡ None → cond b Same (connection_at o p) ≡ ResultFull → ⊥

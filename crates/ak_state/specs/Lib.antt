@@ -1,2 +1,6 @@
 pub mod Seen
 pub mod Reads
+pub mod Drawn
+pub mod Fits
+pub mod Guards
+pub mod Errors

@@ -63,6 +63,28 @@ IsName (Thr t) = ⊥
 IsName (Event e) = ⊥
 IsName (Helper h) = ⊥
 
+-- a monitor of the first n
+abbrev pub IsMonitor : ℕ → Value → Type 0
+IsMonitor n (Num z) = ⊥
+IsMonitor n (Ivar i) = ⊥
+IsMonitor n (Def i) = ⊥
+IsMonitor n (Mon m) = m < n
+IsMonitor n (Pipe p) = ⊥
+IsMonitor n (Thr t) = ⊥
+IsMonitor n (Event e) = ⊥
+IsMonitor n (Helper h) = ⊥
+
+-- a monitor
+abbrev pub IsMon : Value → Type 0
+IsMon (Num z) = ⊥
+IsMon (Ivar i) = ⊥
+IsMon (Def i) = ⊥
+IsMon (Mon m) = Unit {0}
+IsMon (Pipe p) = ⊥
+IsMon (Thr t) = ⊥
+IsMon (Event e) = ⊥
+IsMon (Helper h) = ⊥
+
 -- a number of 64 bits, or one of the first n locals
 abbrev pub IsBound : ℕ → NumAtom → Type 0
 IsBound n (Literal z) = Unit {0}
@@ -74,6 +96,10 @@ IsNumAt vals a = IsBound (length vals) a × IsNum (value_of vals a)
 -- a deferred that a local names
 abbrev pub IsDeferredAt : State → List Value → ℕ → Type 0
 IsDeferredAt s vals k = IsDeferred (length s.cells.ivars) (local vals k)
+
+-- a monitor that a local names
+abbrev pub IsMonitorAt : State → List Value → ℕ → Type 0
+IsMonitorAt s vals k = IsMonitor (length s.monitors) (local vals k)
 
 abbrev pub AreBound : List Value → List NumAtom → Type 0
 AreBound vals args = All (IsBound (length vals)) args

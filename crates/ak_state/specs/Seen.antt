@@ -1,5 +1,5 @@
 -- What the parts of the scheduler stand for: the plain state, with the surviving name in place of each ivar's number.
-use Rattle.std.specs.Prelude.{ℕ, ℤ, ◌≡◌, List, [], length}
+use Rattle.std.specs.Prelude.{ℕ, ◌≡◌, List, [], length}
 use Rattle.ak_rings.specs.Queues.{Queues, picked_from}
 use Rattle.ak_cells.specs.declared.registration.Woken.{Woken}
 use Rattle.ak_cells.specs.Names.{name_in, trimmed}
@@ -7,20 +7,25 @@ use Rattle.ak_cells.specs.Rooms.{NamedCells}
 use Rattle.ak_frames.specs.declared.frame.Frame.{Frame}
 use Rattle.ak_frames.specs.declared.frame.Task.{Task}
 use Rattle.ak_trace.specs.declared.entry.Entry.{Entry}
-use Rattle.ak_trace.specs.declared.entry.Entry.TheVariants as entry
-use Rattle.ak_trace.specs.declared.entry.Ending.TheVariants as ending
+use Rattle.ak_monitor.specs.Monitors.{root_alone}
 use Rattle.ak_machine.specs.State.{State, initial_state}
-use Rattle.ak_machine.specs.Deferred.{noting, enqueue, woken_task}
+use Rattle.ak_machine.specs.Deferred.{enqueue, woken_task}
 use Rattle.ak_machine.specs.Mapped.{state_named}
+use Rattle.ak_state.specs.declared.lists.Lists.{Lists}
 
 -- the state, and the surviving name of each number
 pub record Seen : Type 0 where
   pub plain : State
   pub names : List ℕ
 
--- the machine's other lists, with how many askers are left; nothing is in those that are not built
-abbrev pub other_lists : ℕ → State
-other_lists left = initial_state 0 left
+-- the root monitor alone, and so many askers
+abbrev pub no_lists : ℕ → Lists
+no_lists askers = record { monitors = root_alone; groups = []; purposes = []; left = askers }
+
+-- the machine's other lists; nothing is in those that are not built
+abbrev pub other_lists : Lists → State
+other_lists lists =
+    record (initial_state 0 lists.left) { monitors = lists.monitors; groups = lists.groups; purposes = lists.purposes }
 
 -- the parts, with the numbers that they were given, beside the other lists
 abbrev pub raw_state : NamedCells Frame → Queues Task → List Entry → State → State
@@ -49,10 +54,6 @@ enqueued_for s w = enqueue w.ctx (woken_task w.frame w.num) s
 -- the state with these jobs and this trace
 abbrev pub with_jobs : Queues Task → List Entry → State → State
 with_jobs queues trace s = record s { queues = queues; trace = trace }
-
--- an error at the root, which nobody catches
-abbrev pub root_error : ℤ → State → State
-root_error num s = noting (entry.End ending.Unhandled) (noting (entry.Unhandled num) (noting (entry.Error num 0) s))
 
 -- the next job has left its queue
 abbrev pub without_pick : State → State

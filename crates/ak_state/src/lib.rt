@@ -2,5 +2,6 @@
 #![tactic(auto)]
 
 mod cells;
+mod lists;
 mod local;
 pub mod parts;

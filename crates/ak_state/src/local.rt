@@ -1,11 +1,13 @@
 //! Values of locals. What a statement reads is there and of the right kind, since the program is sound.
 
-ghost use Rattle.std.specs.Prelude.{◌≡◌, ◌<◌, length};
+ghost use Rattle.std.specs.Prelude.{◌≡◌, ◌∷◌, ◌<◌, length, IfOk};
 ghost use Rattle.ak_machine.specs.Effect.{local, number_of, name_of};
-ghost use Rattle.ak_state.specs.Reads.{IsNum, IsName};
+ghost use Rattle.ak_state.specs.Reads.{IsNum, IsName, IsMon};
 
-use ak_base::number::{IvarNo, Num};
+use ak_base::list::{Items, NoMemory};
+use ak_base::number::{IvarNo, MonNo, Num};
 use ak_frames::value::{Vals, Value};
+use std::alloc::Global;
 
 /// The value of a local.
 pub fn local_at(vals: &Vals, k: usize) -> Value
@@ -39,4 +41,25 @@ pub fn ivar_of(value: Value) -> IvarNo
         Value::Def(i) => i,
         _ => unreachable!(),
     }
+}
+
+/// The monitor that a value names.
+pub fn mon_of(value: Value) -> MonNo
+    requires { IsMon value }
+    ensures { result ≡ name_of value }
+{
+    match value {
+        Value::Mon(mon) => mon,
+        _ => unreachable!(),
+    }
+}
+
+/// Values with a number put before them.
+pub fn numbered(alloc: Global, num: Num, vals: &Vals) -> Result<Vals, NoMemory>
+    ensures { IfOk result (λ all. all ≡ Value.Num num ∷ vals.now) }
+{
+    let mut all = Vec::with_capacity(alloc, vals.len() + 1)?;
+    all.push(Value::Num(num))?;
+    all.extend_from_slice(vals.as_slice())?;
+    Ok(Items::from_vec(all))
 }

@@ -4,12 +4,15 @@ mod cycle;
 mod deferred;
 mod effect;
 mod errors;
+mod groups;
+mod monitors;
 
-ghost use Rattle.std.specs.Prelude.{◌≡◌, ◌≤◌, [], OnOk, OnErr};
+ghost use Rattle.std.specs.Prelude.{◌≡◌, ◌≤◌, [], IfOk, OnOk, OnErr};
 ghost use Rattle.ak_machine.specs.State.{initial_state};
 ghost use Rattle.ak_machine.specs.Deferred.{noting};
 ghost use Rattle.ak_state.specs.Seen.{doing};
 
+use crate::lists::Lists;
 use ak_base::list::NoMemory;
 use ak_cells::cells::Cells;
 use ak_frames::frame::{Frame, Task};
@@ -18,15 +21,14 @@ use ak_trace::entry::{Entry, Trace};
 use std::alloc::Global;
 use std::marker::Model;
 
-/// The ivars, the jobs that wait, the trace, and how many askers are left. Contracts see the plain state that they stand for.
-/// Own.
+/// The ivars, the jobs that wait, the trace, and the other lists. Contracts see the plain state that they stand for. Own.
 #[derive(Debug, Drop)]
 pub struct Parts {
     alloc: Global,
     cells: Cells<Frame>,
     queues: Rings<Task>,
     trace: Trace,
-    left: u32,
+    lists: Lists,
 }
 
 impl Model for Parts {
@@ -34,25 +36,39 @@ impl Model for Parts {
 
     ghost Value = { Seen };
 
-    ghost view = { λ p. seen p.cells.named p.queues.queues p.trace (other_lists p.left) };
+    ghost view = { λ p. seen p.cells.named p.queues.queues p.trace (other_lists p.lists) };
 
     ghost invariant = { λ p. IsKept p.cells.named };
 }
 
 impl Parts {
-    /// No ivar was drawn and no job waits. At most `limit` jobs of a priority run in a cycle, and there are so many askers.
-    pub fn make(alloc: Global, limit: u32, askers: u32) -> Parts
+    /// No ivar was drawn, no job waits, and the root is the only monitor. At most `limit` jobs of a priority run in a
+    /// cycle, and there are so many askers.
+    pub fn make(alloc: Global, limit: u32, askers: u32) -> Result<Parts, NoMemory>
         requires { 1 ≤ limit }
-        ensures plain { result.plain ≡ initial_state limit askers }
-        ensures names { result.names ≡ [] }
+        ensures plain { IfOk result (λ parts. parts.plain ≡ initial_state limit askers) }
+        ensures names { IfOk result (λ parts. parts.names ≡ []) }
     {
-        Parts {
+        let lists = Lists::make(alloc, askers)?;
+        Ok(Parts {
             alloc,
             cells: Cells::make(alloc),
             queues: Rings::make(alloc, limit),
             trace: Trace::make(alloc),
-            left: askers,
-        }
+            lists,
+        })
+    }
+
+    /// All is as when it was made. It takes no memory.
+    pub fn reset(&mut self, limit: u32, askers: u32)
+        requires { 1 ≤ limit }
+        ensures { self.new.plain ≡ initial_state limit askers }
+    {
+        let alloc = self.alloc;
+        self.cells = Cells::make(alloc);
+        self.queues = Rings::make(alloc, limit);
+        self.trace = Trace::make(alloc);
+        self.lists.reset(alloc, askers);
     }
 
     /// One more entry in the trace.

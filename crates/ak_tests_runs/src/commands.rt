@@ -74,16 +74,16 @@ fn faulty_run_gives<R: Threads + Wait + Sync>(
 }
 
 /// A command: what it shows, its words, the script, the status and the output.
-struct Case {
-    name: &'static str,
-    words: &'static [&'static str],
-    script: &'static str,
-    status: Status,
-    output: &'static str,
+pub struct Case {
+    pub name: &'static str,
+    pub words: &'static [&'static str],
+    pub script: &'static str,
+    pub status: Status,
+    pub output: &'static str,
 }
 
 // The name of the first case that goes otherwise.
-fn first_wrong<R: Threads + Wait + Sync>(
+pub fn first_wrong<R: Threads + Wait + Sync>(
     rt: &R,
     alloc: Global,
     cases: &[Case],

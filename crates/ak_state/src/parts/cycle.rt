@@ -61,7 +61,7 @@ impl Parts {
     pub fn set_left(&mut self, left: u32)
         ensures { self.new ≡ doing (with_left left) self.old }
     {
-        self.left = left;
+        self.lists.left = left;
     }
 
     /// Whether every asker that is left waits for an answer. No request has arrived, as requests are not built.
@@ -69,7 +69,7 @@ impl Parts {
         ensures quiet { result ≡ is_quiet self.now.plain }
         ensures none_left { self.now.plain.left ≡ 0 → result ≡ true }
     {
-        self.left == 0
+        self.lists.left == 0
     }
 
     /// A cycle begins. No yield is pending and no alarm is due, as neither is built; so there is a job to pick then

@@ -2,7 +2,7 @@ use Rattle.std.specs.Prelude.{pos}
 use Rattle.ak_cells.specs.Names.{name_in}
 use Rattle.ak_frames.specs.declared.value.Value.TheVariants.{Num}
 use Rattle.ak_machine.specs.Mapped.{ret_mapped}
-use Rattle.ak_exec.proofs.Fitting.{returned_grows}
+use Rattle.ak_exec.proofs.Returned.{returned_grows}
 use Rattle.ak_exec.proofs.job.run_lines.Goals as goal
 
 pub returns-clause-fits : goal.returns-clause-fits

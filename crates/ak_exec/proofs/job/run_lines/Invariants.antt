@@ -3,7 +3,7 @@ use Rattle.ak_cells.specs.Names.{name_in}
 use Rattle.ak_machine.specs.Job.{run_lines}
 use Rattle.ak_machine.specs.Mapped.{ret_mapped}
 use Rattle.ak_state.specs.Reads.{named}
-use Rattle.ak_exec.specs.Fits.{IsUnderWay}
+use Rattle.ak_exec.specs.Typed.{IsUnderWay}
 use Rattle.ak_holders.specs.Returns.{LinesReturn}
 use Rattle.ak_exec.proofs.job.run_lines.Given as goal
 

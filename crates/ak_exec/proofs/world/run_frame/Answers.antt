@@ -33,5 +33,5 @@ invariant_of-world c =
 pub invariant_of-world-in-Err : goal.invariant_of-world-in-Err
 invariant_of-world-in-Err c =
     let n : c.take.new.self ≡ None = search rules
-    in rw n (emptied_whole c.world.inside.program c.world.inside.config c.world.inside.picked c.world.inside.ran c.world.inside.parts c.make.result
-    c.make.ensures.plain c.world.invariant)
+    in rw n (emptied_whole c.world.inside.program c.world.inside.config c.world.inside.picked c.world.inside.ran c.world.inside.parts c.reset.new.self
+    c.reset.ensures c.world.invariant)

@@ -9,4 +9,4 @@ returns-clause-picks c =
     rw (← c.self.view_is)
     (has_pick_mapped (name_in (trimmed c.self.inside.cells.named.names)) c.reset.new.self.queues
     ∙ c.reset.ensures.picks
-    ∙ more_seen c.self.inside.cells.named c.self.inside.queues.queues c.self.inside.trace c.self.inside.left)
+    ∙ more_seen c.self.inside.cells.named c.self.inside.queues.queues c.self.inside.trace c.self.inside.lists)

@@ -5,7 +5,7 @@ use Rattle.ak_state.proofs.parts.Parts.fresh.Goals as goal
 pub returns-clause-fresh : goal.returns-clause-fresh
 returns-clause-fresh c =
     rw (← c.self.view_is, c.fresh.ensures.named, c.reserve.ensures.named)
-    (seen_fresh c.self.inside.cells.named c.self.inside.queues.queues c.self.inside.trace (other_lists c.self.inside.left) c.self.invariant.named)
+    (seen_fresh c.self.inside.cells.named c.self.inside.queues.queues c.self.inside.trace (other_lists c.self.inside.lists) c.self.invariant.named)
 
 pub returns-clause-own : goal.returns-clause-own
 returns-clause-own c =

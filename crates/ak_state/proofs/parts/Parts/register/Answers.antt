@@ -14,7 +14,7 @@ returns-in-Kept c =
     let cells : NamedCells Frame = c.self.inside.cells.named
     in let placed : placed_at (number_of c.args.i cells) c.args.frame cells.cells ≡ Kept c.in-Kept.field-0 = search rules
     in rw (← c.self.view_is, c.register.ensures.named, c.reserve.ensures.named)
-    (seen_kept cells c.self.inside.queues.queues c.self.inside.trace (other_lists c.self.inside.left) c.args.i c.args.ctx c.args.frame c.in-Kept.field-0 placed)
+    (seen_kept cells c.self.inside.queues.queues c.self.inside.trace (other_lists c.self.inside.lists) c.args.i c.args.ctx c.args.frame c.in-Kept.field-0 placed)
 
 pub returns-in_ok-enqueue-in-Full : goal.returns-in_ok-enqueue-in-Full
 returns-in_ok-enqueue-in-Full c =
@@ -23,7 +23,7 @@ returns-in_ok-enqueue-in-Full c =
     in let after : NamedCells Frame = registered c.args.i c.args.ctx c.args.frame cells
     in let queued : c.enqueue.new.self ≡ doing
     (enqueue c.args.ctx (task_mapped (name_in (trimmed after.names)) (record { frame = c.in-Full.frame; value = Some c.in-Full.num })))
-    (seen after c.self.inside.queues.queues c.self.inside.trace (other_lists c.self.inside.left)) = rw
+    (seen after c.self.inside.queues.queues c.self.inside.trace (other_lists c.self.inside.lists)) = rw
     (c.in_ok-enqueue-in-Full.ensures, c.register.ensures.named, c.reserve.ensures.named) (search rules)
     in rw (← c.self.view_is, queued)
-    (seen_full cells c.self.inside.queues.queues c.self.inside.trace (other_lists c.self.inside.left) c.args.i c.args.ctx c.args.frame c.in-Full.frame c.in-Full.num placed)
+    (seen_full cells c.self.inside.queues.queues c.self.inside.trace (other_lists c.self.inside.lists) c.args.i c.args.ctx c.args.frame c.in-Full.frame c.in-Full.num placed)

@@ -4,7 +4,7 @@ use Rattle.ak_frames.specs.declared.value.Value.TheVariants.{Num}
 use Rattle.ak_machine.specs.Number.{Gives, computed}
 use Rattle.ak_machine.specs.Effect.{number_in}
 use Rattle.ak_state.specs.Reads.{named}
-use Rattle.ak_exec.proofs.statement.set.Goals as goal
+use Rattle.ak_exec.proofs.statements.values.set.Goals as goal
 
 pub returns-in_ok-push-in-Num : goal.returns-in_ok-push-in-Num
 returns-in_ok-push-in-Num c =

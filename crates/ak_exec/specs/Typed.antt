@@ -1,0 +1,50 @@
+-- Lines of a procedure whose values are of their kinds, and what a statement leaves.
+use Rattle.std.specs.Prelude.{ℕ, ◌<◌, List, ◌++◌, length}
+use Rattle.std.specs.List.{AllByRecursion}
+use Rattle.ak_base.specs.declared.number.Ctx.{Ctx}
+use Rattle.ak_frames.specs.declared.value.Value.{Value}
+use Rattle.ak_frames.specs.declared.value.Value.TheVariants as value
+use Rattle.ak_frames.specs.declared.frame.Ret.{Ret}
+use Rattle.ak_script.specs.declared.script.Kind.{Kind}
+use Rattle.ak_program.specs.declared.program.NumStatement.{NumStatement}
+use Rattle.ak_program.specs.declared.program.NumProc.{NumProc}
+use Rattle.ak_program.specs.declared.statement.NumStmt.{NumStmt}
+use Rattle.ak_program.specs.Programs.{num_binds, LinesAreSound}
+use Rattle.ak_machine.specs.State.{State}
+use Rattle.ak_machine.specs.Effect.{Effect, Goes, Returns, Ends}
+use Rattle.ak_state.specs.Drawn.{Drawn, drawn, More}
+use Rattle.ak_state.specs.Fits.{ValsFit, kinds_of, RetFits, Fits}
+use Rattle.ak_exec.specs.Built.{IsBuilt}
+
+-- the kinds of the locals behind a statement
+abbrev pub kinds_after : List Kind → NumStmt → List Kind
+kinds_after kinds s = kinds ++ kinds_of (num_binds s)
+
+-- values for the lines that are left
+pub record AreTyped (program : List NumProc) (n : Drawn) (vals : List Value) (lines : List NumStatement) : Type 0 where
+  pub kinds : List Kind
+  pub vals_fit : ValsFit n kinds vals
+  pub sound : LinesAreSound program kinds lines
+  pub built : AllByRecursion IsBuilt lines
+
+-- a number, or a deferred that was drawn
+abbrev pub IsReturned : Drawn → Value → Type 0
+IsReturned n (value.Num z) = Unit {0}
+IsReturned n (value.Ivar i) = i < n.ivars
+IsReturned n (value.Def i) = i < n.ivars
+IsReturned n other = ⊥
+
+-- what a statement leaves, where so much was drawn before: nothing is gone, the values behind it have these kinds, and all of the
+-- state fits
+abbrev pub EffectFits : List NumProc → Drawn → List Kind → Effect → Type 0
+EffectFits program n kinds (Goes s vals) = More n (drawn s) × ValsFit (drawn s) kinds vals × Fits program s
+EffectFits program n kinds (Returns v) = IsReturned n v
+EffectFits program n kinds (Ends after) = Fits program after.state
+EffectFits program n kinds other = Unit {0}
+
+-- a job that runs the lines
+pub record IsUnderWay (program : List NumProc) (s : State) (vals : List Value) (ctx : Ctx) (ret : Ret) (lines : List NumStatement) : Type 0 where
+  pub monitor : ctx.mon < length s.monitors
+  pub typed : AreTyped program (drawn s) vals lines
+  pub ret_fits : RetFits (drawn s) ret
+  pub fits : Fits program s

@@ -1,0 +1,75 @@
+//! What the job of each kind of frame does.
+
+ghost use Rattle.std.specs.Prelude.{◌≡◌, ◌<◌, ◌∷◌, length, None, IfOk, OnOk};
+ghost use Rattle.ak_machine.specs.Job.{Over, run_frame as frame_run, value_or_zero};
+ghost use Rattle.ak_holders.specs.Returns.{FrameReturns};
+ghost use Rattle.ak_exec.specs.Built.{AreBuilt};
+ghost use Rattle.ak_state.specs.Drawn.{drawn};
+ghost use Rattle.ak_state.specs.Fits.{Fits, FrameFits};
+ghost use Rattle.ak_state.specs.Reads.{frame_named};
+ghost use Rattle.ak_state.specs.Errors.{after_is, Ends};
+
+use crate::job::{Running, run_call};
+use ak_base::list::{Items, NoMemory};
+use ak_base::number::{Ctx, Num};
+use ak_frames::frame::{Frame, Task};
+use ak_frames::value::{Vals, Value};
+use ak_machine::flow::Flow;
+use ak_program::program::Program;
+use ak_state::parts::Parts;
+
+/// The number that woke a job; 0 where it waited for none.
+fn number_of(value: Option<Num>) -> Num
+    ensures { result ≡ value_or_zero value }
+{
+    match value {
+        Some(num) => num,
+        None => 0,
+    }
+}
+
+/// The values of a frame that waited, with the number that woke it in front.
+fn with_value(value: Option<Num>, vals: Vals) -> Result<Vals, NoMemory>
+    ensures { IfOk result (λ all. all ≡ Value.Num (value_or_zero value) ∷ vals) }
+{
+    let mut all = vals.into_vec();
+    all.insert(0, Value::Num(number_of(value)))?;
+    Ok(Items::from_vec(all))
+}
+
+/// A frame, with the number that woke it where it waited for one.
+pub fn run_task(
+    program: &Program,
+    parts: &mut Parts,
+    ctx: Ctx,
+    task: Task,
+) -> Result<Flow, NoMemory>
+    requires built { AreBuilt program.now.procs }
+    requires monitor { ctx.mon < length parts.old.plain.monitors }
+    requires frame { FrameFits program.now.procs (drawn parts.old.plain)
+        (frame_named parts.old task.frame) }
+    requires returns { FrameReturns program.now.procs ctx
+        (frame_named parts.old task.frame) (value_or_zero task.value) parts.old.plain }
+    requires fits { Fits program.now.procs parts.old.plain }
+    ensures fits { OnOk result (Fits program.now.procs parts.new.plain) }
+    ensures told { IfOk result (λ flow. Ends flow parts.new.plain.trace) }
+    ensures runs { IfOk result (λ flow.
+        frame_run program.now.procs ctx (frame_named parts.old task.frame)
+        (value_or_zero task.value) parts.old.plain ≡ Over (after_is flow parts.new.plain)) }
+{
+    let Task { frame, value } = task;
+    match frame {
+        Frame::Call { proc, vals, ret } => {
+            run_call(program, parts, Running { ctx, ret }, proc, vals)
+        }
+        Frame::OnValue { proc, vals, ret } => {
+            let all = with_value(value, vals)?;
+            run_call(program, parts, Running { ctx, ret }, proc, all)
+        }
+        Frame::TryDone { guard } => {
+            parts.end_try(guard, number_of(value))?;
+            Ok(Flow::On)
+        }
+        _ => unreachable!(),
+    }
+}

@@ -1,0 +1,128 @@
+-- Which values, frames and handlers fit a program: each names what was drawn, and is of the kind that is wanted.
+use Rattle.std.specs.Prelude.{ℕ, pos, ◌<◌, ◌≡◌, List, [], ◌∷◌, map, length, slice_get, MatchOption}
+use Rattle.std.specs.List.{AllByRecursion}
+use Rattle.ak_base.specs.declared.number.Ctx.{Ctx}
+use Rattle.ak_rings.specs.declared.job.Job.{Job}
+use Rattle.ak_cells.specs.declared.registration.Registration.{Registration}
+use Rattle.ak_frames.specs.declared.value.Value.{Value}
+use Rattle.ak_frames.specs.declared.value.Value.TheVariants as value
+use Rattle.ak_frames.specs.declared.frame.Ret.{Ret}
+use Rattle.ak_frames.specs.declared.frame.Ret.TheVariants.{Drop, To, TryBody}
+use Rattle.ak_frames.specs.declared.frame.Frame.{Frame}
+use Rattle.ak_frames.specs.declared.frame.Frame.TheVariants.{Call, OnValue, TryDone}
+use Rattle.ak_frames.specs.declared.frame.Task.{Task}
+use Rattle.ak_script.specs.declared.script.Kind.{Kind}
+use Rattle.ak_script.specs.declared.script.Kind.TheVariants.{Num, Ivar, Def, Mon}
+use Rattle.ak_program.specs.declared.program.NumParam.{NumParam}
+use Rattle.ak_program.specs.declared.program.NumProc.{NumProc}
+use Rattle.ak_monitor.specs.Monitors.{Monitor}
+use Rattle.ak_machine.specs.declared.held.Callback.{Callback}
+use Rattle.ak_machine.specs.declared.held.Handler.{Handler}
+use Rattle.ak_machine.specs.declared.held.Handler.TheVariants.{OnError, OfGuard}
+use Rattle.ak_machine.specs.declared.held.Purpose.{Purpose}
+use Rattle.ak_machine.specs.declared.held.Purpose.TheVariants.{ForGuard}
+use Rattle.ak_machine.specs.State.{State}
+use Rattle.ak_state.specs.Drawn.{Drawn, drawn}
+
+-- a value of a kind, where so much was drawn
+abbrev pub ValueFits : Drawn → Kind → Value → Type 0
+ValueFits n Num (value.Num z) = Unit {0}
+ValueFits n Ivar (value.Ivar i) = i < n.ivars
+ValueFits n Def (value.Ivar i) = i < n.ivars
+ValueFits n Def (value.Def i) = i < n.ivars
+ValueFits n Mon (value.Mon m) = m < n.monitors
+ValueFits n other v = ⊥
+
+-- each value is of its kind
+abbrev pub ValsFit : Drawn → List Kind → List Value → Type 0
+ValsFit n [] [] = Unit {0}
+ValsFit n (kind ∷ kinds) (v ∷ vals) = ValueFits n kind v × ValsFit n kinds vals
+ValsFit n [] (v ∷ vals) = ⊥
+ValsFit n (kind ∷ kinds) [] = ⊥
+
+-- the kinds of parameters
+abbrev pub kinds_of : List NumParam → List Kind
+kinds_of params = map (λ param. param.kind) params
+
+abbrev pub RetFits : Drawn → Ret → Type 0
+RetFits n Drop = Unit {0}
+RetFits n (To i) = i < n.ivars
+RetFits n (TryBody g) = g < n.groups
+RetFits n other = ⊥
+
+-- the procedure is there, and takes the values
+abbrev pub CallFits : List NumProc → Drawn → ℕ → List Value → Type 0
+CallFits program n proc vals = MatchOption (slice_get program proc) ⊥ (λ p. ValsFit n (kinds_of p.params) vals)
+
+-- the same with a number in front of the values
+abbrev pub ValueCallFits : List NumProc → Drawn → ℕ → List Value → Type 0
+ValueCallFits program n proc vals = CallFits program n proc (value.Num (pos 0) ∷ vals)
+
+-- a frame; one that waits for a number takes it in front of its values
+abbrev pub FrameFits : List NumProc → Drawn → Frame → Type 0
+FrameFits program n (Call proc vals ret) = CallFits program n proc vals × RetFits n ret
+FrameFits program n (OnValue proc vals ret) = ValueCallFits program n proc vals × RetFits n ret
+FrameFits program n (TryDone g) = g < n.groups
+FrameFits program n other = ⊥
+
+-- a job or a handler: its monitor is there
+pub record HeldFits (program : List NumProc) (n : Drawn) (ctx : Ctx) (frame : Frame) : Type 0 where
+  pub monitor : ctx.mon < n.monitors
+  pub frame_fits : FrameFits program n frame
+
+abbrev pub JobFits : List NumProc → Drawn → Job Task → Type 0
+JobFits program n job = HeldFits program n job.ctx job.frame.frame
+
+abbrev pub HandlerFits : List NumProc → Drawn → Registration Frame → Type 0
+HandlerFits program n g = HeldFits program n g.ctx g.frame
+
+-- what a monitor does with an error: it calls a procedure with the error in front of its values, or tells a guard
+abbrev pub ActFits : List NumProc → Drawn → Handler → Type 0
+ActFits program n (OnError proc vals) = ValueCallFits program n proc vals
+ActFits program n (OfGuard g) = g < n.groups
+ActFits program n other = ⊥
+
+-- in the context of its registration
+pub record ActorFits (program : List NumProc) (n : Drawn) (h : Ctx × Handler) : Type 0 where
+  pub monitor : h.0.mon < n.monitors
+  pub act : ActFits program n h.1
+
+-- what waits for the errors of a monitor
+pub record MonitorFits (program : List NumProc) (n : Drawn) (m : Monitor Handler) : Type 0 where
+  pub next_errors : AllByRecursion (λ i. i < n.ivars) m.next_errors
+  pub actors : AllByRecursion (ActorFits program n) m.handlers
+
+-- a guard: the context of its `try`, the monitor of its body, and the call that takes an error
+pub record GuardFits (program : List NumProc) (n : Drawn) (ctx : Ctx) (m : ℕ) (catch : Callback) : Type 0 where
+  pub context : ctx.mon < n.monitors
+  pub monitor : m < n.monitors
+  pub catches : ValueCallFits program n catch.proc catch.vals
+  pub result : catch.to < n.ivars
+
+-- what a group is for
+abbrev pub PurposeFits : List NumProc → Drawn → Purpose → Type 0
+PurposeFits program n (ForGuard ctx m mode catch) = GuardFits program n ctx m catch
+PurposeFits program n other = ⊥
+
+-- all that a state holds, list by list; each group has its purpose
+pub record ListsFit (program : List NumProc) (n : Drawn) (of_registrations : List (Registration Frame))
+    (of_normal of_low : List (Job Task)) (of_monitors : List (Monitor Handler)) (of_purposes : List Purpose) (groups : ℕ) : Type 0 where
+  pub handlers : AllByRecursion (HandlerFits program n) of_registrations
+  pub normal : AllByRecursion (JobFits program n) of_normal
+  pub low : AllByRecursion (JobFits program n) of_low
+  pub monitors : AllByRecursion (MonitorFits program n) of_monitors
+  pub purposes : AllByRecursion (PurposeFits program n) of_purposes
+  pub paired : length of_purposes ≡ groups
+
+abbrev pub StateFits : List NumProc → Drawn → State → Type 0
+StateFits program n s =
+    ListsFit program n s.cells.registrations s.queues.normal s.queues.low s.monitors s.purposes (length s.groups)
+
+-- all of a state fits a program
+abbrev pub Fits : List NumProc → State → Type 0
+Fits program s = StateFits program (drawn s) s
+
+-- all of a state fits some program
+pub record FitsSome (s : State) : Type 0 where
+  pub program : List NumProc
+  pub fits : Fits program s

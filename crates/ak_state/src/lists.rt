@@ -1,0 +1,43 @@
+//! The lists of the state beside ivars and jobs.
+
+ghost use Rattle.std.specs.Prelude.{◌≡◌, IfOk};
+ghost use Rattle.ak_state.specs.Seen.{no_lists};
+
+use ak_base::list::{Items, NoMemory};
+use ak_choice::groups::Groups;
+use ak_machine::held::{Handler, Purpose};
+use ak_monitor::tree::Tree;
+use std::alloc::Global;
+
+/// What waits for errors, and for decisions, with the numbers that it was given; and how many askers are left. Own.
+#[derive(Debug, Drop)]
+pub struct Lists {
+    pub monitors: Tree<Handler>,
+    pub groups: Groups,
+    pub purposes: Items<Purpose>,
+    pub left: u32,
+}
+
+impl Lists {
+    /// The root monitor alone, and so many askers.
+    pub fn make(alloc: Global, askers: u32) -> Result<Lists, NoMemory>
+        ensures { IfOk result (λ l. l ≡ no_lists askers) }
+    {
+        Ok(Lists {
+            monitors: Tree::make(alloc)?,
+            groups: Groups::make(alloc),
+            purposes: Items::make(alloc),
+            left: askers,
+        })
+    }
+
+    /// The root monitor alone again. It takes no memory.
+    pub fn reset(&mut self, alloc: Global, askers: u32)
+        ensures { self.new ≡ no_lists askers }
+    {
+        self.monitors.reset();
+        self.groups = Groups::make(alloc);
+        self.purposes = Items::make(alloc);
+        self.left = askers;
+    }
+}
