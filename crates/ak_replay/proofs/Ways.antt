@@ -73,15 +73,15 @@ other_call None a at no_call = tt
 other_call (Some e) a at no_call = (at, no_call)
 
 -- what is kept of a record, as far as it was passed
-abbrev pub Keeps : Inside → Progress → Arrived → Option Ask → Type 0
+abbrev pub Keeps : {B : Type 0} → Inside B → Progress → Arrived → Option Ask → Type 0
 Keeps p at due lost = IsReplay p.threads p.askers p.history at due lost
 
 -- what the port is, by what it keeps
-abbrev pub seen : Inside → ReplayState
+abbrev pub seen : {B : Type 0} → Inside B → ReplayState
 seen p = record { threads = p.threads; askers = p.askers; history = p.history; passed = p.at.events; missed = p.missed; waits = p.waits.items }
 
 -- what is kept, once events of threads and askers were passed
-pub keeps_passed : (p : Inside) (k : ℕ) (due' : Arrived) (lost : Option Ask) → Keeps p p.at p.due p.missed
+pub keeps_passed : {B : Type 0} (p : Inside B) (k : ℕ) (due' : Arrived) (lost : Option Ask) → Keeps p p.at p.due p.missed
     → IsPassed p.history p.at.events k p.due due' → IsMissed (slice_get p.history k) lost → Keeps p (record p.at { events = k }) due' lost
 keeps_passed p k due' lost r w other =
     let xs = take p.at.events p.history in
@@ -221,7 +221,7 @@ pub drain_leaves : (e : Event) (due : Arrived) → ask_of e ≡ Some ask.Drain �
 drain_leaves e due is = ap (brought_then due) (drain_event e is).is
 
 -- what is kept, once a call was passed
-pub keeps_counted : (p : Inside) (due' : Arrived) (e : Event) (a : Ask) → Keeps p p.at p.due p.missed → p.missed ≡ None
+pub keeps_counted : {B : Type 0} (p : Inside B) (due' : Arrived) (e : Event) (a : Ask) → Keeps p p.at p.due p.missed → p.missed ≡ None
     → slice_get p.history p.at.events ≡ Some e → ask_of e ≡ Some a → due' ≡ brought_then p.due e → Keeps p (counted a p.at) due' p.missed
 keeps_counted p due' e a r none there is now =
     let xs = take p.at.events p.history in
@@ -303,7 +303,7 @@ calls_made s at owes r same h =
     r.calls ∙ (ap (λ k. length (asks (take k s.history))) same ∙ ap (λ o. length (with_missed (asks (passed_by s)) o)) (sym none))
 
 -- the same, by what the port keeps
-pub none_yet : (p : Inside) → Keeps p p.at p.due p.missed → IsOpen (asked_of (seen p)) (replied_of (seen p)) → p.missed ≡ None
+pub none_yet : {B : Type 0} (p : Inside B) → Keeps p p.at p.due p.missed → IsOpen (asked_of (seen p)) (replied_of (seen p)) → p.missed ≡ None
 none_yet p r h = nothing_missed (seen p) (legal_take p.threads p.askers p.history p.at.events r.legal) h
 
 -- the next event, where it is this call
@@ -320,7 +320,7 @@ fewer_asked f (x ∷ xs) = one (f x) (fewer_asked f xs)
     one (Some a) h = omega (arith, h)
 
 -- the counts have room for the next call
-pub can_count : (s : ReplayState) (p : Inside) (a : Ask) → Keeps p p.at p.due p.missed → HasWalked s (seen p) → HasRoom a s
+pub can_count : {B : Type 0} (s : ReplayState) (p : Inside B) (a : Ask) → Keeps p p.at p.due p.missed → HasWalked s (seen p) → HasRoom a s
     → IsNext (seen p) a → CanCount a p.at
 can_count s p a r w room next =
     let e = next_event (slice_get p.history p.at.events) a next in
@@ -346,7 +346,7 @@ can_count s p a r w room next =
     of ask.Close h = tt
 
 -- what is kept once a call was passed that is no drain
-pub expect_goes : (p : Inside) (a : Ask) (at' : Progress) → Keeps p p.at p.due p.missed → p.missed ≡ None → IsNext (seen p) a
+pub expect_goes : {B : Type 0} (p : Inside B) (a : Ask) (at' : Progress) → Keeps p p.at p.due p.missed → p.missed ≡ None → IsNext (seen p) a
     → is_drain a ≡ false → at' ≡ counted a p.at → Keeps p at' p.due p.missed
 expect_goes p a at' r none next no_drain now =
     let e = next_event (slice_get p.history p.at.events) a next in
@@ -357,14 +357,14 @@ abbrev pub AreAlike : ReplayState → ReplayState → Type 0
 AreAlike s s' = s' ≡ record s { passed = s'.passed; missed = s'.missed }
 
 -- where each call has its reply before it went on, none was missed
-pub none_before : (s : ReplayState) (p : Inside) → Keeps p p.at p.due p.missed → AreAlike s (seen p)
+pub none_before : {B : Type 0} (s : ReplayState) (p : Inside B) → Keeps p p.at p.due p.missed → AreAlike s (seen p)
     → IsOpen (asked_of s) (replied_of s) → s.missed ≡ None
 none_before s p r same h =
     let legal : Legal s.threads s.askers s.history = subst (λ (x : ReplayState). Legal x.threads x.askers x.history) same r.legal in
     nothing_missed s (legal_take s.threads s.askers s.history s.passed legal) h
 
 -- a call that is no drain was passed
-pub expect_passes : (s : ReplayState) (p : Inside) (a : Ask) (at' : Progress) → Keeps p p.at p.due p.missed → AreAlike s (seen p)
+pub expect_passes : {B : Type 0} (s : ReplayState) (p : Inside B) (a : Ask) (at' : Progress) → Keeps p p.at p.due p.missed → AreAlike s (seen p)
     → HasWalked s (seen p) → IsOpen (asked_of s) (replied_of s) → p.missed ≡ None → IsNext (seen p) a → is_drain a ≡ false → at' ≡ counted a p.at
     → HasPassedCall a s (record (seen p) { passed = at'.events })
 expect_passes s p a at' r same w opened none next no_drain now =
@@ -379,14 +379,14 @@ expect_passes s p a at' r same w opened none next no_drain now =
     (e.0, passed)
 
 -- how many works were handed in, and how many helpers were asked for
-pub submits_made : (p : Inside) → Keeps p p.at p.due p.missed → IsOpen (asked_of (seen p)) (replied_of (seen p))
+pub submits_made : {B : Type 0} (p : Inside B) → Keeps p p.at p.due p.missed → IsOpen (asked_of (seen p)) (replied_of (seen p))
     → p.at.submits ≡ length (filter_map handed_by (asked_of (seen p)))
 submits_made p r h =
     r.submits
     ∙ (submits_alike p.threads p.askers (passed_by (seen p)) (legal_take p.threads p.askers p.history p.at.events r.legal)
     ∙ ap (λ o. length (filter_map handed_by (with_missed (asks (passed_by (seen p))) o))) (sym (none_yet p r h)))
 
-pub helpers_made : (p : Inside) → Keeps p p.at p.due p.missed → IsOpen (asked_of (seen p)) (replied_of (seen p))
+pub helpers_made : {B : Type 0} (p : Inside B) → Keeps p p.at p.due p.missed → IsOpen (asked_of (seen p)) (replied_of (seen p))
     → p.at.helpers ≡ length (filter_map helper_in (asked_of (seen p)))
 helpers_made p r h =
     r.helpers
@@ -394,7 +394,7 @@ helpers_made p r h =
 
 -- ---- a drain
 -- what is kept once a drain was passed
-pub drain_goes : (p : Inside) (at' : Progress) (left : Arrived) → Keeps p p.at p.due p.missed → p.missed ≡ None
+pub drain_goes : {B : Type 0} (p : Inside B) (at' : Progress) (left : Arrived) → Keeps p p.at p.due p.missed → p.missed ≡ None
     → IsNext (seen p) ask.Drain → at' ≡ counted ask.Drain p.at → left ≡ record { works = []; requests = []; left = p.due.left }
     → Keeps p at' left p.missed
 drain_goes p at' left r none next now is =
@@ -403,13 +403,13 @@ drain_goes p at' left r none next now is =
     (keeps_counted p left e.0 ask.Drain r none e.1 e.2 (is ∙ sym (drain_leaves e.0 p.due e.2)))
 
 -- the calls and replies before it are those of what was passed then
-pub record IsBeforeDrain (s : ReplayState) (p : Inside) : Type 0 where
+pub record IsBeforeDrain {B : Type 0} (s : ReplayState) (p : Inside B) : Type 0 where
   pub legal : Legal p.threads p.askers (passed_by (seen p))
   pub askers : p.askers ≡ s.askers
   pub asked : asks (passed_by (seen p)) ≡ asked_of s
   pub replied : replies p.askers (passed_by (seen p)) ≡ replied_of s
 
-pub before_drain : (s : ReplayState) (p : Inside) → Keeps p p.at p.due p.missed → AreAlike s (seen p) → HasWalked s (seen p)
+pub before_drain : {B : Type 0} (s : ReplayState) (p : Inside B) → Keeps p p.at p.due p.missed → AreAlike s (seen p) → HasWalked s (seen p)
     → IsOpen (asked_of s) (replied_of s) → IsBeforeDrain s p
 before_drain s p r same w opened =
     let calls = calls_behind s.askers (passed_by s) (passed_by (seen p)) w.behind in
@@ -421,7 +421,7 @@ before_drain s p r same w opened =
       replied = ap (λ n. replies n (passed_by (seen p))) askers ∙ calls.1;
     }
 
-pub drain_passes : (s : ReplayState) (p : Inside) (at' : Progress) (into : Arrived) → Keeps p p.at p.due p.missed
+pub drain_passes : {B : Type 0} (s : ReplayState) (p : Inside B) (at' : Progress) (into : Arrived) → Keeps p p.at p.due p.missed
     → AreAlike s (seen p) → HasWalked s (seen p) → IsOpen (asked_of s) (replied_of s) → p.missed ≡ None → IsNext (seen p) ask.Drain
     → at' ≡ counted ask.Drain p.at → into ≡ p.due
     → (asked_of (record (seen p) { passed = at'.events }) ≡ asked_of s ++ ask.Drain ∷ [])
@@ -438,20 +438,20 @@ drain_passes s p at' into r same w opened none next now is =
     let passed = call_passed s s' e.0 ask.Drain (Drained into) p.at.events w.behind w.on before.askers free none e.1 e.2 reply events in
     (passed.asked, passed.replied)
 
-pub drain_arrives : (s : ReplayState) (p : Inside) (into : Arrived) → IsBeforeDrain s p → into ≡ brought p.askers (passed_by (seen p))
+pub drain_arrives : {B : Type 0} (s : ReplayState) (p : Inside B) (into : Arrived) → IsBeforeDrain s p → into ≡ brought p.askers (passed_by (seen p))
     → Arrive (outstanding (asked_of s) (replied_of s)) into.works
 drain_arrives s p into b is =
     subst (λ (x : List Ask × (List Reply × Arrived)). Arrive (outstanding x.0 x.1.0) x.1.1.works)
     (λ i. (b.asked i, (b.replied i, sym is i))) (arrives p.threads p.askers (passed_by (seen p)) b.legal)
 
-pub drain_serves : (s : ReplayState) (p : Inside) (into : Arrived) → IsBeforeDrain s p → into ≡ brought p.askers (passed_by (seen p))
+pub drain_serves : {B : Type 0} (s : ReplayState) (p : Inside B) (into : Arrived) → IsBeforeDrain s p → into ≡ brought p.askers (passed_by (seen p))
     → Serves s.askers (asked_of s) (replied_of s) into
 drain_serves s p into b is =
     subst (λ (x : (ℕ × List Ask) × (List Reply × Arrived)). Serves x.0.0 x.0.1 x.1.0 x.1.1)
     (λ i. ((b.askers i, b.asked i), (b.replied i, sym is i))) (serves p.threads p.askers (passed_by (seen p)) b.legal)
 
 -- fewer events are left
-pub drain_turns : (s : ReplayState) (p : Inside) (at' : Progress) → Keeps p p.at p.due p.missed → AreAlike s (seen p)
+pub drain_turns : {B : Type 0} (s : ReplayState) (p : Inside B) (at' : Progress) → Keeps p p.at p.due p.missed → AreAlike s (seen p)
     → HasWalked s (seen p) → IsNext (seen p) ask.Drain → at' ≡ counted ask.Drain p.at → length p.history - at'.events < length s.history - s.passed
 drain_turns s p at' r same w next now =
     let e = next_event (slice_get p.history p.at.events) ask.Drain next in

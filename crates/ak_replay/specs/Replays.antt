@@ -16,6 +16,16 @@ use Rattle.ak_replay.specs.declared.passing.Progress.{Progress}
 use Rattle.ak_replay.specs.declared.port.Departure.{Departure}
 use Rattle.ak_replay.specs.declared.port.Departure.TheVariants.{Stray, Short}
 
+-- a record: the numbers of threads and askers of its pool, and its history
+pub record Recording : Type 0 where
+  pub threads : ℕ
+  pub askers : ℕ
+  pub history : List Event
+
+-- no record: what a name stands for that names none
+abbrev pub no_recording : Recording
+no_recording = record { threads = 0; askers = 0; history = [] }
+
 -- the numbers of threads and askers, the record, how many of its events were passed, the call that was missed, and the waits
 pub record ReplayState : Type 0 where
   pub threads : ℕ
@@ -24,6 +34,10 @@ pub record ReplayState : Type 0 where
   pub passed : ℕ
   pub missed : Option Ask
   pub waits : List ℕ
+
+-- the record that is replayed
+abbrev pub recording_of : ReplayState → Recording
+recording_of s = record { threads = s.threads; askers = s.askers; history = s.history }
 
 -- the events that were passed
 abbrev pub passed_by : ReplayState → List Event
@@ -61,6 +75,11 @@ pub record IsReplay (threads askers : ℕ) (history : List Event) (at : Progress
   pub helpers : at.helpers ≡ count_by is_helper_new (take at.events history)
   pub due : owes ≡ brought askers (take at.events history)
   pub missed : IsMissed (slice_get history at.events) lost
+
+-- the record is this one, and what is kept beside it is what was passed of it
+pub record IsReplayOf (of : Recording) (threads askers : ℕ) (history : List Event) (at : Progress) (owes : Arrived) (lost : Option Ask) : Type 0 where
+  pub named : record { threads = threads; askers = askers; history = history } ≡ of
+  pub kept : IsReplay threads askers history at owes lost
 
 -- nothing but events of threads and askers was passed
 pub record HasWalked (s s' : ReplayState) : Type 0 where

@@ -4,7 +4,7 @@ ghost use Rattle.std.specs.Prelude.{◌≡◌, ◌≤◌, [], None, OnOk, IfErr,
 ghost use Rattle.ak_labor.specs.Calls.{IsOpen};
 ghost use Rattle.ak_labor.specs.Waits.{is_drain};
 ghost use Rattle.ak_history.specs.Legal.{Legal};
-ghost use Rattle.ak_replay.specs.Replays.{IsNext, HasRoom, HasFailed, HasWalked, HasPassedCall, DepartsBy, asked_of, replied_of};
+ghost use Rattle.ak_replay.specs.Replays.{IsNext, HasRoom, HasFailed, HasWalked, HasPassedCall, DepartsBy, Recording, no_recording, recording_of, asked_of, replied_of};
 
 use crate::passing::{Progress, is_call, is_grant, pass};
 use ak_base::number::{HelperNo, Num, RequestNo, WorkNo};
@@ -13,8 +13,18 @@ use ak_labor::ask::Ask;
 use ak_labor::port::{Port, PortError};
 use ak_labor::work::{Arrivals, Work};
 use std::alloc::Global;
-use std::marker::Model;
+use std::marker::{Brand, Model, PhantomData};
 use std::mem::swap;
+
+/// The name of the record that a port is over. It stands in the port's type, so that what a run over the port says is known of
+/// that record.
+pub trait Naming {
+    ghost recording: { Recording };
+}
+
+impl Naming for Brand {
+    ghost recording = { no_recording };
+}
 
 /// The fault of a replay: the call that was made is not the record's next one. `ReplayPort::departure` tells what is.
 #[derive(Clone, Copy, PartialEq, Eq, Debug)]
@@ -40,8 +50,8 @@ pub enum Departure {
 ///
 /// Contracts see the numbers of threads and askers, the record, how many of its events were passed, the call that was missed, and
 /// the waits. After a call was missed nothing more may be asked.
-#[derive(Debug, Drop)]
-pub struct ReplayPort {
+#[derive(Drop)]
+pub struct ReplayPort<B: Naming> {
     threads: u32,
     askers: u32,
     history: History,
@@ -49,10 +59,11 @@ pub struct ReplayPort {
     due: Arrivals,
     missed: Option<Ask>,
     waits: Vec<u64>,
+    of: PhantomData<B>,
 }
 
-impl Model for ReplayPort {
-    ghost use Rattle.ak_replay.specs.Replays.{ReplayState, IsReplay};
+impl<B: Naming> Model for ReplayPort<B> {
+    ghost use Rattle.ak_replay.specs.Replays.{ReplayState, IsReplayOf};
 
     ghost Value = { ReplayState };
 
@@ -66,13 +77,16 @@ impl Model for ReplayPort {
     } };
 
     ghost invariant = { λ p.
-        IsReplay p.threads p.askers p.history p.at p.due p.missed };
+        IsReplayOf B.recording p.threads p.askers p.history p.at p.due p.missed };
 }
 
-impl ReplayPort {
-    /// The pool of a record, of which nothing was passed. The history is legal for so many threads and askers. It takes no memory.
-    pub fn make(alloc: Global, history: History, threads: u32, askers: u32) -> ReplayPort
-        requires { Legal threads askers history }
+impl<B: Naming> ReplayPort<B> {
+    /// The pool of the record that `B` names, of which nothing was passed. The history is legal for so many threads and askers.
+    /// It takes no memory.
+    pub fn make(alloc: Global, history: History, threads: u32, askers: u32) -> ReplayPort<B>
+        requires legal { Legal threads askers history }
+        requires named { B.recording
+            ≡ record { threads = threads; askers = askers; history = history } }
         ensures { result ≡ record {
           threads = threads;
           askers = askers;
@@ -93,20 +107,22 @@ impl ReplayPort {
             due,
             missed: None,
             waits: Vec::new(alloc),
+            of: PhantomData,
         }
     }
 
     /// The record, whole. It takes no memory.
     pub fn history(self) -> History
         ensures history { result ≡ self.history }
-        ensures legal { Legal self.threads self.askers result }
+        ensures named { recording_of self ≡ B.recording }
     {
         self.history
     }
 
     /// Where the replay left its record, once a call was missed: `None` where none was. It takes no memory.
     pub fn departure(self) -> Option<Departure>
-        ensures { DepartsBy self result }
+        ensures departs { DepartsBy self result }
+        ensures named { recording_of self ≡ B.recording }
     {
         let asked = self.missed?;
         let place = self.at.events;
@@ -152,7 +168,7 @@ impl ReplayPort {
     }
 }
 
-impl Port for ReplayPort {
+impl<B: Naming> Port for ReplayPort<B> {
     ghost use Rattle.std.specs.Prelude.{length, ◌-◌};
     ghost use Rattle.ak_replay.specs.Replays.{asked_of, replied_of};
 

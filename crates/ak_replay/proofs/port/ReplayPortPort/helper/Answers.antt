@@ -10,29 +10,29 @@ use Rattle.ak_replay.proofs.Ways.{helpers_made}
 use Rattle.ak_replay.proofs.port.ReplayPortPort.helper.Goals as goal
 
 pub expect-requires-clause-room : goal.expect-requires-clause-room
-expect-requires-clause-room c =
+expect-requires-clause-room g c =
     let p = c.self.inside in
     let opened = rw (← c.self.view_is) at c.requires.open in
     let many = rw (← c.self.view_is) at c.requires.numbers in
-    rw (← c.self.view_is) (omega (arith, many, sym c.self.invariant.helpers ∙ helpers_made p c.self.invariant opened))
+    rw (← c.self.view_is) (omega (arith, many, sym c.self.invariant.kept.helpers ∙ helpers_made p c.self.invariant.kept opened))
 
 pub returns-in_err-expect-clause-asked : goal.returns-in_err-expect-clause-asked
-returns-in_err-expect-clause-asked c =
+returns-in_err-expect-clause-asked g c =
     let p = c.self.inside in
     let opened = rw (← c.self.view_is) at c.requires.open in
     let made : p.at.helpers ≡ length (filter_map helper_in (asked_of c.args.self.now)) =
-    rw (← c.self.view_is) (helpers_made p c.self.invariant opened) in
+    rw (← c.self.view_is) (helpers_made p c.self.invariant.kept opened) in
     let failed =
     subst (λ n. IfErr c.expect.result (λ e. HasFailed (ask.HelperNew n) e c.args.self.now c.expect.new.self))
     (c.new-no.ensures ∙ made) c.expect.ensures.failed in
     search rules
 
 pub returns-clause-asked : goal.returns-clause-asked
-returns-clause-asked c =
+returns-clause-asked g c =
     let p = c.self.inside in
     let opened = rw (← c.self.view_is) at c.requires.open in
     let made : p.at.helpers ≡ length (filter_map helper_in (asked_of c.args.self.now)) =
-    rw (← c.self.view_is) (helpers_made p c.self.invariant opened) in
+    rw (← c.self.view_is) (helpers_made p c.self.invariant.kept opened) in
     let passed = c.in_ok-expect.ensures.ok.1 in
     let last = rw (← c.self-2.view_is) at passed.last in
     let granted : is_grant c.in_ok-expect.ensures.ok.0 ≡ c.is_some_and.result = search rules in (
