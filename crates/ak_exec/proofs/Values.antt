@@ -69,7 +69,8 @@ def_returned n (value.Ivar i) f = f
 def_returned n (value.Def i) f = f
 def_returned n v f = absurd f
 
-pub ivar_at : (n : Drawn) (kinds : List Kind) (vals : List Value) (k : ℕ) → ValsFit n kinds vals → IsKnown kinds (used k Ivar) → IsDeferred n.ivars (local vals k)
+pub ivar_at : (n : Drawn) (kinds : List Kind) (vals : List Value) (k : ℕ) → ValsFit n kinds vals → IsKnown kinds (used k Ivar)
+    → IsDeferred n.ivars (local vals k)
 ivar_at n kinds vals k f h = def_value n (local vals k) (ivar_as_def n (local vals k) (local_fits n kinds vals k Ivar f h).1)
 
 pub def_at : (n : Drawn) (kinds : List Kind) (vals : List Value) (k : ℕ) → ValsFit n kinds vals → IsKnown kinds (used k Def) → IsDeferred n.ivars (local vals k)
@@ -92,7 +93,8 @@ pub all_back : {A : Type 0} (P : A → Type 0) (xs ys : List A) → AllByRecursi
 all_back P [] ys h = h
 all_back P (x ∷ xs) ys h = all_back P xs ys h.1
 
-pub num_at : (n : Drawn) (kinds : List Kind) (vals : List Value) (a : NumAtom) → ValsFit n kinds vals → AllByRecursion (IsKnown kinds) (number a) → IsNumAt vals a
+pub num_at : (n : Drawn) (kinds : List Kind) (vals : List Value) (a : NumAtom) → ValsFit n kinds vals → AllByRecursion (IsKnown kinds) (number a)
+    → IsNumAt vals a
 num_at n kinds vals (Literal z) f h = (tt, tt)
 num_at n kinds vals (Local k) f h = let p = local_fits n kinds vals k Num f h.0 in (p.0, num_value n (local vals k) p.1)
 

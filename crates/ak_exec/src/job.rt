@@ -78,8 +78,8 @@ fn advance(
     k: usize,
     vals: &mut Vals,
 ) -> Result<Option<Flow>, NoMemory>
-    requires way { IsUnderWay program.now.procs parts.old.plain (named parts.old vals.old) job.now.ctx
-        (ret_named parts.old job.now.ret) (drop k lines.now) }
+    requires way { IsUnderWay program.now.procs parts.old.plain (named parts.old vals.old)
+        job.now.ctx (ret_named parts.old job.now.ret) (drop k lines.now) }
     requires some { k < length lines.now }
     requires returns { LinesReturn job.now.ctx (ret_named parts.old job.now.ret)
         (drop k lines.now) parts.old.plain (named parts.old vals.old) }
@@ -87,8 +87,8 @@ fn advance(
         (LinesReturn job.now.ctx (ret_named parts.new job.now.ret)
         (drop (k + 1) lines.now) parts.new.plain (named parts.new vals.new))) }
     ensures way { IfOk result (λ next.
-        IfNone next (IsUnderWay program.now.procs parts.new.plain (named parts.new vals.new) job.now.ctx
-        (ret_named parts.new job.now.ret) (drop (k + 1) lines.now))) }
+        IfNone next (IsUnderWay program.now.procs parts.new.plain (named parts.new vals.new)
+        job.now.ctx (ret_named parts.new job.now.ret) (drop (k + 1) lines.now))) }
     ensures fits { OnOk result (Fits program.now.procs parts.new.plain) }
     ensures told { IfOk result (λ next. IfSome next (λ flow. Ends flow parts.new.plain.trace)) }
     ensures runs { IfOk result (λ next.
@@ -120,8 +120,8 @@ fn run_lines(
     lines: &[NumStatement],
     vals: &mut Vals,
 ) -> Result<Flow, NoMemory>
-    requires way { IsUnderWay program.now.procs parts.old.plain (named parts.old vals.old) job.now.ctx
-        (ret_named parts.old job.now.ret) lines.now }
+    requires way { IsUnderWay program.now.procs parts.old.plain (named parts.old vals.old)
+        job.now.ctx (ret_named parts.old job.now.ret) lines.now }
     requires returns { LinesReturn job.now.ctx (ret_named parts.old job.now.ret)
         lines.now parts.old.plain (named parts.old vals.old) }
     ensures fits { OnOk result (Fits program.now.procs parts.new.plain) }
@@ -178,21 +178,11 @@ pub fn run_call(
     let mut vals = vals;
     // For the proof alone: its contract says that the program is sound.
     let _main = program.main();
-    run_lines(
-        program,
-        parts,
-        &job,
-        lines_at(program, proc),
-        &mut vals,
-    )
+    run_lines(program, parts, &job, lines_at(program, proc), &mut vals)
 }
 
 /// A job with its entry, to its end.
-pub fn run_job(
-    program: &Program,
-    parts: &mut Parts,
-    job: Job<Task>,
-) -> Result<Flow, NoMemory>
+pub fn run_job(program: &Program, parts: &mut Parts, job: Job<Task>) -> Result<Flow, NoMemory>
     requires built { AreBuilt program.now.procs }
     requires job { JobFits program.now.procs (drawn parts.old.plain)
         (job_named parts.old job) }

@@ -52,9 +52,7 @@ pub fn run_statement(
         NumStmt::Sched { proc, args } => {
             call(parts, Ctx { low: false, ..ctx }, vals, *proc, args)
         }
-        NumStmt::Low { proc, args } => {
-            call(parts, Ctx { low: true, ..ctx }, vals, *proc, args)
-        }
+        NumStmt::Low { proc, args } => { call(parts, Ctx { low: true, ..ctx }, vals, *proc, args) }
         NumStmt::Never { r } => never(parts, ctx, vals, *r),
         NumStmt::Monitor { m } => monitor(parts, ctx, vals, *m),
         NumStmt::Within { m, proc, args } => within(parts, ctx, vals, *m, *proc, args),
@@ -69,9 +67,7 @@ pub fn run_statement(
             catch,
             catch_args,
             mode,
-        } => try_body(
-            parts, ctx, vals, *r, *proc, args, *catch, catch_args, *mode,
-        ),
+        } => try_body(parts, ctx, vals, *r, *proc, args, *catch, catch_args, *mode),
         NumStmt::Raise { a } => raise(parts, ctx, vals, *a),
         NumStmt::Ret { a } => ret(parts, ctx, vals, *a),
         _ => unreachable!(),

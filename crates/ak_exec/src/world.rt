@@ -11,7 +11,6 @@ ghost use Rattle.ak_state.specs.Errors.{Ends};
 ghost use Rattle.ak_exec.specs.Worlds.{with_pick, with_state, first_state, ServesAskers, RunsJob};
 
 use crate::job::run_job;
-use ak_state::parts::Parts;
 use ak_base::list::{Items, NoMemory};
 use ak_base::number::{Ctx, JobNo, MonNo};
 use ak_frames::frame::{Frame, Ret, Task};
@@ -19,6 +18,7 @@ use ak_labor::config::Config;
 use ak_machine::flow::Flow;
 use ak_program::program::Program;
 use ak_rings::job::Job;
+use ak_state::parts::Parts;
 use ak_trace::entry::{Ending, Entry, Trace};
 use std::alloc::Global;
 use std::marker::Model;

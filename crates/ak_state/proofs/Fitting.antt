@@ -109,7 +109,8 @@ frame_grows program n n' h (OnValue proc vals ret) f = (call_grows (slice_get pr
 frame_grows program n n' h (TryDone g) f = omega (arith, h.groups, f)
 frame_grows program n n' h frame f = absurd f
 
-pub held_grows : (program : List NumProc) (n n' : Drawn) → More n n' → (ctx : Ctx) (frame : Frame) → HeldFits program n ctx frame → HeldFits program n' ctx frame
+pub held_grows : (program : List NumProc) (n n' : Drawn) → More n n' → (ctx : Ctx) (frame : Frame) → HeldFits program n ctx frame
+    → HeldFits program n' ctx frame
 held_grows program n n' h ctx frame f = record { monitor = omega (arith, h.monitors, f.monitor); frame_fits = frame_grows program n n' h frame f.frame_fits }
 
 act_grows : (program : List NumProc) (n n' : Drawn) → More n n' → (x : Handler) → ActFits program n x → ActFits program n' x

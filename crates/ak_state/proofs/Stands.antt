@@ -270,7 +270,8 @@ more_by false c e = rw (sym e) refl
 
 pub more_seen : (cells : NamedCells Frame) (q : Queues Task) (t : List Entry) (lists : Lists)
     → not (has_no_job q) ≡ has_more (seen cells q t (other_lists lists)).plain
-more_seen cells q t lists = more_by (has_no_job q) (has_no_job (seen cells q t (other_lists lists)).plain.queues) (sym (no_job_mapped (name_in (trimmed cells.names)) q))
+more_seen cells q t lists = more_by (has_no_job q) (has_no_job (seen cells q t (other_lists lists)).plain.queues)
+    (sym (no_job_mapped (name_in (trimmed cells.names)) q))
 
 -- an empty result is not found full
 never_by : (b : Bool) (o p : Option ℤ) → o ≡ None → cond b Same (connection_at o p) ≡ ResultFull → ⊥

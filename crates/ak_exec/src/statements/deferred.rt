@@ -33,7 +33,13 @@ pub fn never(parts: &mut Parts, ctx: Ctx, vals: &mut Vals, r: usize) -> Result<S
     Ok(Step::Goes)
 }
 
-pub fn fill(parts: &mut Parts, ctx: Ctx, vals: &Vals, i: usize, a: NumAtom) -> Result<Step, NoMemory>
+pub fn fill(
+    parts: &mut Parts,
+    ctx: Ctx,
+    vals: &Vals,
+    i: usize,
+    a: NumAtom,
+) -> Result<Step, NoMemory>
     requires deferred { IsDeferredAt parts.old.plain (named parts.old vals.now) i }
     requires number { IsNumAt (named parts.old vals.now) a }
     ensures { IfOk result (λ step.
@@ -48,7 +54,13 @@ pub fn fill(parts: &mut Parts, ctx: Ctx, vals: &Vals, i: usize, a: NumAtom) -> R
     }
 }
 
-pub fn offer(parts: &mut Parts, ctx: Ctx, vals: &Vals, i: usize, a: NumAtom) -> Result<Step, NoMemory>
+pub fn offer(
+    parts: &mut Parts,
+    ctx: Ctx,
+    vals: &Vals,
+    i: usize,
+    a: NumAtom,
+) -> Result<Step, NoMemory>
     requires deferred { IsDeferredAt parts.old.plain (named parts.old vals.now) i }
     requires number { IsNumAt (named parts.old vals.now) a }
     ensures { IfOk result (λ step.

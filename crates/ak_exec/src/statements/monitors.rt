@@ -96,7 +96,13 @@ pub fn next_error(
     Ok(Step::Goes)
 }
 
-pub fn send(parts: &mut Parts, ctx: Ctx, vals: &Vals, m: usize, a: NumAtom) -> Result<Step, NoMemory>
+pub fn send(
+    parts: &mut Parts,
+    ctx: Ctx,
+    vals: &Vals,
+    m: usize,
+    a: NumAtom,
+) -> Result<Step, NoMemory>
     requires monitor { IsMonitorAt parts.old.plain (named parts.old vals.now) m }
     requires number { IsNumAt (named parts.old vals.now) a }
     requires fits { FitsSome parts.old.plain }

@@ -4,6 +4,7 @@ ghost use Rattle.std.specs.Prelude.{◌≡◌, ◌≢◌, ◌∷◌, ◌<◌, le
 ghost use Rattle.ak_cells.specs.Names.{name_in};
 ghost use Rattle.ak_monitor.specs.Monitors.{path, catcher as catcher_of};
 ghost use Rattle.ak_machine.specs.State.{State};
+ghost use Rattle.ak_machine.specs.Mapped.{handled_mapped};
 ghost use Rattle.ak_machine.specs.Errors.{send as send_of, next_errors_filled, handled};
 ghost use Rattle.ak_state.specs.Seen.{doing};
 ghost use Rattle.ak_state.specs.Fits.{FitsSome};
@@ -71,7 +72,8 @@ impl Parts {
         requires below { mon ≢ c }
         requires caught { catcher_of self.now.plain.monitors mon ≡ Some c }
         ensures older { result < mon }
-        ensures path { path self.now.plain.monitors mon ≡ mon ∷ path self.now.plain.monitors result }
+        ensures path { path self.now.plain.monitors mon
+            ≡ mon ∷ path self.now.plain.monitors result }
         ensures caught { catcher_of self.now.plain.monitors result ≡ Some c }
     {
         match self.lists.monitors.parent(mon) {
@@ -157,6 +159,16 @@ impl Parts {
         }
     }
 
+    /// One handler of a monitor, with the context of its registration.
+    fn handler(&self, c: MonNo, k: usize) -> &(Ctx, Handler)
+        requires monitor { c < length self.now.plain.monitors }
+        requires handler { k < length (handlers_of c self.now.plain) }
+        ensures { handler_of c k self.now.plain
+            ≡ Some (handled_mapped (name_in self.now.names) result.now) }
+    {
+        &self.lists.monitors.handlers(c)[k]
+    }
+
     /// What one handler of a monitor does with an error.
     fn reaction(&self, c: MonNo, k: usize, num: Num) -> Result<Reaction, NoMemory>
         requires monitor { c < length self.now.plain.monitors }
@@ -167,7 +179,7 @@ impl Parts {
             ≡ acted_by num (handler_of c k self.now.plain) s) }
         ensures guard { IfOk result (λ reaction. TellsDrawn reaction self.now.plain) }
     {
-        let handler = &self.lists.monitors.handlers(c)[k];
+        let handler = self.handler(c, k);
         match &handler.1 {
             Handler::OnError { proc, vals } => {
                 let vals = numbered(self.alloc, num, vals)?;

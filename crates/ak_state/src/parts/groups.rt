@@ -146,7 +146,8 @@ impl Parts {
         ensures guard { IsGuardOf result (purpose_at g self.now.plain) }
         ensures context { result.ctx.mon < length self.now.plain.monitors }
         ensures monitor { result.mon < length self.now.plain.monitors }
-        ensures to { name_in self.now.names result.to ≡ (catch_of (purpose_at g self.now.plain)).to }
+        ensures to { name_in self.now.names result.to
+            ≡ (catch_of (purpose_at g self.now.plain)).to }
         ensures drawn { result.to < length self.now.plain.cells.ivars }
     {
         match self.purpose(g) {

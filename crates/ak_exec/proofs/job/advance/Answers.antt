@@ -106,7 +106,8 @@ returned-requires c =
           subst (λ (x : Seen). RetFits (drawn x.plain) (ret_mapped (name_in x.names) c.args.job.now.ret)) (sym takes.1) c.requires.way.ret_fits;
       value =
           subst (λ (x : Seen). IsReturned (drawn x.plain) v) (sym takes.1)
-          (head_returned c.args.program.now.procs c.args.job.now.ctx _ c.args.parts.now.plain (named c.args.parts.now c.args.vals.now) v c.index-lines-k.result _
+          (head_returned c.args.program.now.procs c.args.job.now.ctx _ c.args.parts.now.plain (named c.args.parts.now c.args.vals.now) v
+          c.index-lines-k.result _
           (rw e at c.requires.way) takes.0);
       empty =
           subst (λ (x : Seen). IsEmptyResult (ret_mapped (name_in x.names) c.args.job.now.ret) x.plain) (sym takes.1)

@@ -22,7 +22,8 @@ pub unreachable-requires : goal.unreachable-requires
 unreachable-requires c =
     let cells : NamedCells Frame = c.self.inside.cells.named
     in let told : connection_of c.args.r c.args.i cells ≡ ResultFull = search rules
-    in never_full cells c.self.inside.queues.queues c.self.inside.trace (other_lists c.self.inside.lists) c.args.r c.args.i (rw (← c.self.view_is) at c.requires.empty) told
+    in never_full cells c.self.inside.queues.queues c.self.inside.trace (other_lists c.self.inside.lists) c.args.r c.args.i
+    (rw (← c.self.view_is) at c.requires.empty) told
 
 pub returns-in_ok-note_fill-in-Filled : goal.returns-in_ok-note_fill-in-Filled
 returns-in_ok-note_fill-in-Filled c =
@@ -33,7 +34,8 @@ returns-in_ok-note_fill-in-Filled c =
     (with_jobs c.self.inside.queues.queues (c.self.inside.trace ++ entry.Fill (name_in cells.names c.args.r) c.in-Filled.num ∷ []) s)
     (connected c.args.r c.args.i cells).woken = λ s. rw (c.in_ok-note_fill-in-Filled.ensures.jobs s, is, c.name-result.ensures.name) (search rules)
     in rw (← c.self.view_is, c.note_fill.ensures.cells, is)
-    (seen_taken cells c.self.inside.queues.queues c.note_fill.new.queues.queues c.self.inside.trace c.note_fill.new.trace (other_lists c.self.inside.lists) c.args.r
+    (seen_taken cells c.self.inside.queues.queues c.note_fill.new.queues.queues c.self.inside.trace c.note_fill.new.trace
+    (other_lists c.self.inside.lists) c.args.r
     c.args.i c.in-Filled.num told jobs)
 
 pub returns-in_ok-push-in-Joined : goal.returns-in_ok-push-in-Joined

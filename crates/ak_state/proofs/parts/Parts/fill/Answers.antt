@@ -22,7 +22,8 @@ returns-in_ok-note_fill-in-Ok-clause-filled c =
     (with_jobs c.self.inside.queues.queues (c.self.inside.trace ++ entry.Fill (name_in cells.names c.args.i) c.args.num ∷ []) s)
     (filled_named c.args.i c.args.num cells).woken = λ s. rw (c.in_ok-note_fill-in-Ok.ensures.jobs s, filled_is, c.name-ivar.ensures.name) (search rules)
     in rw (← c.self.view_is, c.note_fill.ensures.cells, filled_is)
-    (seen_filled cells c.self.inside.queues.queues c.note_fill.new.queues.queues c.self.inside.trace c.note_fill.new.trace (other_lists c.self.inside.lists) c.args.i
+    (seen_filled cells c.self.inside.queues.queues c.note_fill.new.queues.queues c.self.inside.trace c.note_fill.new.trace
+    (other_lists c.self.inside.lists) c.args.i
     c.args.num e jobs)
 
 pub returns-in-Err-clause-empty : goal.returns-in-Err-clause-empty

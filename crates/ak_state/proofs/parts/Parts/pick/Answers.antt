@@ -11,4 +11,5 @@ returns-clause-job c =
 
 pub returns-clause-parts : goal.returns-clause-parts
 returns-clause-parts c =
-    rw (← c.self.view_is, c.pick.ensures.queues) (seen_pick c.self.inside.cells.named c.self.inside.queues.queues c.self.inside.trace (other_lists c.self.inside.lists))
+    rw (← c.self.view_is, c.pick.ensures.queues) (seen_pick c.self.inside.cells.named c.self.inside.queues.queues c.self.inside.trace
+    (other_lists c.self.inside.lists))

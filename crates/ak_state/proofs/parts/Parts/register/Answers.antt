@@ -14,7 +14,8 @@ returns-in-Kept c =
     let cells : NamedCells Frame = c.self.inside.cells.named
     in let placed : placed_at (number_of c.args.i cells) c.args.frame cells.cells ≡ Kept c.in-Kept.field-0 = search rules
     in rw (← c.self.view_is, c.register.ensures.named, c.reserve.ensures.named)
-    (seen_kept cells c.self.inside.queues.queues c.self.inside.trace (other_lists c.self.inside.lists) c.args.i c.args.ctx c.args.frame c.in-Kept.field-0 placed)
+    (seen_kept cells c.self.inside.queues.queues c.self.inside.trace (other_lists c.self.inside.lists) c.args.i c.args.ctx c.args.frame c.in-Kept.field-0
+    placed)
 
 pub returns-in_ok-enqueue-in-Full : goal.returns-in_ok-enqueue-in-Full
 returns-in_ok-enqueue-in-Full c =
@@ -26,4 +27,5 @@ returns-in_ok-enqueue-in-Full c =
     (seen after c.self.inside.queues.queues c.self.inside.trace (other_lists c.self.inside.lists)) = rw
     (c.in_ok-enqueue-in-Full.ensures, c.register.ensures.named, c.reserve.ensures.named) (search rules)
     in rw (← c.self.view_is, queued)
-    (seen_full cells c.self.inside.queues.queues c.self.inside.trace (other_lists c.self.inside.lists) c.args.i c.args.ctx c.args.frame c.in-Full.frame c.in-Full.num placed)
+    (seen_full cells c.self.inside.queues.queues c.self.inside.trace (other_lists c.self.inside.lists) c.args.i c.args.ctx c.args.frame c.in-Full.frame
+    c.in-Full.num placed)
