@@ -102,6 +102,14 @@ open_fun = record {
   lines = record { number = 2; stmt = Print None (Literal (pos 1)) } ∷ [];
 }
 
+-- a number that has no 64 bits
+abbrev pub wide_text : List ℕ
+wide_text = text_of (codes "fun main" ∷ codes "print 9223372036854775808" ∷ codes "end" ∷ [])
+
+-- an eighth local, beside a number that has no 64 bits
+abbrev pub many_text : List ℕ
+many_text = text_of (codes "fun f a b c d e g h" ∷ codes "let i = 9223372036854775808" ∷ codes "end" ∷ [])
+
 -- ---- faults of names, each the least of its line
 -- a local that is bound a second time, by a local that isn't known
 abbrev pub twice_funs : List NamedFun
