@@ -1,0 +1,4 @@
+pub mod Begins
+pub mod Function
+pub mod Places
+pub mod Written
