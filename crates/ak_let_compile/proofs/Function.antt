@@ -1,11 +1,11 @@
 -- A function is written line by line.
-use Rattle.std.proofs.Common.{ℕ, suc, pos, ◌+◌, ◌*◌, ◌<◌, ◌≤◌, ◌^◌, ◌≡◌, ◌⊎◌, inl, inr, List, [], ◌∷◌, ◌++◌, length, drop, None, ap, sym, subst, ◌∙◌, arith}
+use Rattle.std.proofs.Common.{ℕ, suc, pos, ◌+◌, ◌*◌, ◌<◌, ◌≤◌, ◌^◌, ◌≡◌, ◌⊎◌, inl, inr, List, [], ◌∷◌, ◌++◌, length, drop, None, refl, length-append, ap, sym, subst, ◌∙◌, arith}
 use Rattle.ak_program.specs.declared.program.NumProc.{NumProc}
 use Rattle.ak_program.specs.declared.statement.NumAtom.TheVariants.{Literal}
 use Rattle.ak_program.specs.declared.statement.NumStmt.TheVariants as stmt
 use Rattle.ak_let.specs.declared.source.Line.{Line}
 use Rattle.ak_let.specs.declared.source.Fun.{Fun}
-use Rattle.ak_let.specs.Compile.{fun_procs, further, line_behind, written}
+use Rattle.ak_let.specs.Compile.{fun_procs, further, line_after, line_behind, piece, plain, written}
 use Rattle.ak_let.specs.Correct.{FunIsWithin}
 use Rattle.ak_let_compile.specs.declared.draft.Draft.{Draft}
 use Rattle.ak_let_compile.specs.Drafts.{HasRoom, IsLined, Steps, begun, completed, piece_of, proc_of, with_statement}
@@ -75,3 +75,22 @@ pub all_walked : (entry : ℕ → ℕ) (place line : ℕ) (fun : Fun) (before af
     → after ++ proc_of (with_statement d None (stmt.Offer d.answer (Literal (pos 0)))) ∷ [] ≡ before ++ fun_procs entry place line fun
 all_walked entry place line fun before after d i l h =
     ap (λ r. after ++ completed entry d r) (sym (drop_past fun.lines i l)) ∙ h.same
+
+-- the line behind procedures is that behind the last
+pub line_after_last : (x y : ℕ) (before : List NumProc) (proc : NumProc) (procs : List NumProc)
+    → line_after x (before ++ proc ∷ procs) ≡ line_after y (proc ∷ procs)
+line_after_last x y [] proc procs = refl
+line_after_last x y (first ∷ before) proc procs = line_after_last (line_behind first) y before proc procs
+
+-- the line behind a function that is written
+pub behind_all : (entry : ℕ → ℕ) (place line : ℕ) (fun : Fun) (before after : List NumProc) (d : Draft) (i : ℕ) → length fun.lines ≤ i
+    → IsWalked entry place line fun before after d i → d.line + 2 ≡ line_after line (fun_procs entry place line fun)
+behind_all entry place line fun before after d i l h =
+    let last : NumProc = proc_of (with_statement d None (stmt.Offer d.answer (Literal (pos 0))))
+    in let procs : List NumProc = fun_procs entry place line fun
+    in let first : NumProc = piece entry place line fun.params fun.lines
+    in let behind : d.line + 2 ≡ line_behind last =
+    omega (arith, h.lined, length-append d.body (plain d.line (stmt.Offer d.answer (Literal (pos 0))) ∷ []))
+    in behind ∙ sym (line_after_last line line after last [])
+    ∙ ap (line_after line) (all_walked entry place line fun before after d i l h)
+    ∙ line_after_last line line before first (further entry (suc place) (line_behind first) fun.params fun.lines)
