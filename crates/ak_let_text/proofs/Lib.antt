@@ -1,11 +1,12 @@
-pub mod Forms
 pub mod Back
 pub mod Compiled
-pub mod Written
+pub mod Forms
+pub mod Limits
 pub mod Lined
 pub mod Named
-pub mod Words
 pub mod Script
-pub mod Limits
 pub mod Size
+pub mod Spaced
 pub mod Validity
+pub mod Words
+pub mod Written

@@ -1,3 +1,4 @@
 pub mod Compiles
 pub mod Named
 pub mod Text
+pub mod Words
