@@ -109,7 +109,8 @@ script_append (s ∷ body) rest =
     ∙ sym (append_assoc (statement_bytes s) (flat_map statement_bytes body) (flat_map row_text (map form_row rest)))
 
 proc_is : (proc : NumProc) (rest : List Form)
-    → flat_map row_text (map form_row (Head (proc_name proc.name) proc.line (map named_param proc.params) ∷ (map Body (map named_statement proc.body) ++ End ∷ rest)))
+    → flat_map row_text
+    (map form_row (Head (proc_name proc.name) proc.line (map named_param proc.params) ∷ (map Body (map named_statement proc.body) ++ End ∷ rest)))
     ≡ head_bytes proc.name proc.params ++ (flat_map statement_bytes proc.body ++ (codes "end\n" ++ flat_map row_text (map form_row rest)))
 proc_is proc rest = ap (λ l. head_bytes proc.name proc.params ++ l) (script_append proc.body (End ∷ rest))
 
