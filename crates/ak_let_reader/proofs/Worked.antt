@@ -1,5 +1,5 @@
 -- The texts that were worked by hand, line by line.
-use Rattle.std.proofs.Common.{◌≡◌, ◌≤◌, ℕ, ℤ, pos, List, [], ◌∷◌, Some, None, FitsSigned, w64, refl, subst, sym, inl, inr, arith}
+use Rattle.std.proofs.Common.{◌≡◌, ℕ, ℤ, pos, List, [], ◌∷◌, Some, None, FitsSigned, w64, refl, subst, sym, inl, inr, arith}
 use Rattle.std.proofs.lemmas.Int.{ints}
 use Rattle.std.specs.Prelude.{filter, codes}
 use Rattle.std.specs.List.{AllZip, AllByRecursion}
@@ -8,9 +8,9 @@ use Rattle.ak_text.specs.Numbers.{Writes}
 use Rattle.ak_let.specs.Worked.{worked}
 use Rattle.ak_let_reader.specs.declared.refusal.LetFault.TheVariants.{BadLine, BadNumber, NoMain, TooMany, UnknownName}
 use Rattle.ak_let_reader.specs.Answers.{HasFault, IsSource}
-use Rattle.ak_let_reader.specs.Faults.{EndsInside, Front, IsFront}
+use Rattle.ak_let_reader.specs.Faults.{Front, IsFront}
 use Rattle.ak_let_reader.specs.Grammar.{IsLine, Reads, IsWithin, forms}
-use Rattle.ak_let_reader.specs.Rows.{worked_text, worked_main, worked_sq, worked_bad, worked_fix, worked_funs, unknown_text, unknown_funs, mainless_text, mainless_funs, many_text, open_text, open_fun, wide_text}
+use Rattle.ak_let_reader.specs.Rows.{worked_text, worked_funs, unknown_text, unknown_funs, mainless_text, mainless_funs, many_text, open_text, open_fun, wide_text}
 use Rattle.ak_script.specs.declared.statement.Atom.TheVariants.{Literal}
 use Rattle.ak_let_reader.specs.declared.named.NamedFun.{NamedFun}
 use Rattle.ak_let_reader.specs.declared.named.NamedStmt.TheVariants.{Let, Print}

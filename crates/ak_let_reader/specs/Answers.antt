@@ -1,5 +1,5 @@
 -- What the reader answers, want of memory aside. Own.
-use Rattle.std.specs.Prelude.{◌≡◌, ℕ, ◌⊎◌, Option, Some, None, Result, Ok, Err, List}
+use Rattle.std.specs.Prelude.{◌≡◌, ℕ, ◌⊎◌, Some, None, Result, Ok, Err, List}
 use Rattle.ak_let.specs.declared.source.Source.{Source}
 use Rattle.ak_let_reader.specs.declared.named.NamedFun.{NamedFun}
 use Rattle.ak_let_reader.specs.declared.refusal.LetFault.{LetFault}

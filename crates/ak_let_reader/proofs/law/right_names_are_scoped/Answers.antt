@@ -1,0 +1,5 @@
+use Rattle.ak_let_reader.proofs.Right.{names_are_scoped}
+use Rattle.ak_let_reader.proofs.law.right_names_are_scoped.Goals as goal
+
+pub returns : goal.returns
+returns c = names_are_scoped
