@@ -1,5 +1,5 @@
 -- A world that is whole stays so.
-use Rattle.std.proofs.Common.{◌≡◌, ℕ, [], length, refl, sym, subst}
+use Rattle.std.proofs.Common.{◌≡◌, ℕ, [], refl, sym, subst}
 use Rattle.std.specs.Prelude.{Option, None, IfSome}
 use Rattle.std.specs.Option.{option_map}
 use Rattle.ak_cells.specs.Names.{name_in}

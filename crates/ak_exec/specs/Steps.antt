@@ -1,5 +1,5 @@
 -- What the steps of a job mean.
-use Rattle.std.specs.Prelude.{ℕ, ℤ, ◌≡◌, List, Option, Some, None}
+use Rattle.std.specs.Prelude.{ℤ, ◌≡◌, List, Option, Some, None}
 use Rattle.ak_base.specs.declared.number.Ctx.{Ctx}
 use Rattle.ak_cells.specs.Names.{name_in}
 use Rattle.ak_frames.specs.declared.value.Value.{Value}

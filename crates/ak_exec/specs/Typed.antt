@@ -1,5 +1,5 @@
 -- Lines of a procedure whose values are of their kinds, and what a statement leaves.
-use Rattle.std.specs.Prelude.{ℕ, ◌<◌, List, ◌++◌, length}
+use Rattle.std.specs.Prelude.{◌<◌, List, ◌++◌, length}
 use Rattle.std.specs.List.{AllByRecursion}
 use Rattle.ak_base.specs.declared.number.Ctx.{Ctx}
 use Rattle.ak_frames.specs.declared.value.Value.{Value}

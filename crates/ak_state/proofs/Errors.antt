@@ -1,6 +1,6 @@
 -- Errors that go up a path, one monitor at a time, and handlers that act, one at a time.
-use Rattle.std.proofs.Common.{◌≡◌, ◌≢◌, ℕ, ℤ, zero, suc, ◌+◌, ◌<◌, ◌≤◌, List, [], ◌∷◌, ◌++◌, length, map, drop, get_or, fold, refl, ap, sym, ◌∙◌, subst, Bool, true, false, cond, arith, length-append}
-use Rattle.std.specs.Prelude.{pos, Option, Some, None, ◌==◌, reverse, slice_set, slice_get, slice_index_or}
+use Rattle.std.proofs.Common.{◌≡◌, ◌≢◌, ℕ, ℤ, zero, suc, ◌+◌, ◌<◌, ◌≤◌, List, [], ◌∷◌, ◌++◌, length, map, drop, get_or, fold, refl, ap, sym, ◌∙◌, subst, Bool, true, false, cond, arith}
+use Rattle.std.specs.Prelude.{Option, Some, None, ◌==◌, reverse, slice_set, slice_get}
 use Rattle.std.specs.List.{AllByRecursion}
 use Rattle.std.proofs.lemmas.Bool.{ne_eqb, eq-eqb, false≢true}
 use Rattle.std.proofs.lemmas.List.{length-map, map-append, reverse-append, length-reverse}
@@ -11,7 +11,7 @@ use Rattle.ak_cells.specs.declared.registration.Registration.{Registration}
 use Rattle.ak_cells.specs.Cells.{waiting_on, filled}
 use Rattle.ak_frames.specs.declared.value.Value.{Value}
 use Rattle.ak_frames.specs.declared.value.Value.TheVariants.{Num}
-use Rattle.ak_frames.specs.declared.frame.Ret.TheVariants.{Drop, To}
+use Rattle.ak_frames.specs.declared.frame.Ret.TheVariants.{Drop}
 use Rattle.ak_frames.specs.declared.frame.Frame.{Frame}
 use Rattle.ak_frames.specs.declared.frame.Frame.TheVariants.{Call}
 use Rattle.ak_frames.specs.declared.frame.Task.{Task}
@@ -20,10 +20,8 @@ use Rattle.ak_cells.specs.Names.{name_in, trimmed}
 use Rattle.ak_cells.specs.Rooms.{NamedCells}
 use Rattle.ak_trace.specs.declared.entry.Entry.{Entry}
 use Rattle.ak_trace.specs.declared.entry.Entry.TheVariants as entry
-use Rattle.ak_trace.specs.declared.entry.Ending.TheVariants as ending
-use Rattle.ak_monitor.specs.Monitors.{Monitor, fresh_monitor, monitor_in, without_next_errors, path_down, path, first_detached, catcher, up_to}
+use Rattle.ak_monitor.specs.Monitors.{Monitor, monitor_in, without_next_errors, path_down, path, first_detached, catcher, up_to}
 use Rattle.ak_program.specs.declared.program.NumProc.{NumProc}
-use Rattle.ak_script.specs.declared.statement.GuardMode.{GuardMode}
 use Rattle.ak_script.specs.declared.statement.GuardMode.TheVariants as mode
 use Rattle.ak_machine.specs.declared.held.Handler.{Handler}
 use Rattle.ak_machine.specs.declared.held.Handler.TheVariants.{OnError, OfGuard}
@@ -32,7 +30,7 @@ use Rattle.ak_machine.specs.declared.held.Purpose.TheVariants.{ForGuard}
 use Rattle.ak_machine.specs.State.{State}
 use Rattle.ak_machine.specs.Mapped.{values_mapped, handler_mapped, handled_mapped, monitor_mapped}
 use Rattle.ak_machine.specs.Deferred.{noting, enqueue, plain_task, woken_by, number_at, fill_at, fill, filled_with}
-use Rattle.ak_machine.specs.Groups.{group_at, purpose_at, guard_catches, guard_acts}
+use Rattle.ak_machine.specs.Groups.{group_at, purpose_at, guard_catches}
 use Rattle.ak_machine.specs.Errors.{next_errors_filled, handler_acts, handled, caught_at, send}
 use Rattle.ak_state.specs.Seen.{Seen, seen, doing}
 use Rattle.ak_state.specs.Drawn.{drawn}

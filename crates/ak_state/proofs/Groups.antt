@@ -1,8 +1,8 @@
 -- What each change of the guards does to the state that the parts stand for, and to what fits.
-use Rattle.std.proofs.Common.{◌≡◌, ℕ, ℤ, zero, suc, ◌+◌, ◌<◌, List, [], ◌∷◌, ◌++◌, length, map, refl, ap, subst, sym, ◌∙◌, arith, Bool, true, false}
-use Rattle.std.specs.Prelude.{pos, Option, Some, None, slice_get, slice_index_or}
+use Rattle.std.proofs.Common.{◌≡◌, ℕ, ℤ, zero, suc, ◌+◌, ◌<◌, List, [], ◌∷◌, ◌++◌, length, map, ap, subst, sym, ◌∙◌, arith, Bool, true, false}
+use Rattle.std.specs.Prelude.{pos, Some, None, slice_get, slice_index_or}
 use Rattle.std.specs.List.{AllByRecursion}
-use Rattle.std.proofs.lemmas.List.{map-append, length-map, length-append}
+use Rattle.std.proofs.lemmas.List.{map-append, length-append}
 use Rattle.std.proofs.Math.ListN.{length-set}
 use Rattle.ak_base.specs.declared.number.Ctx.{Ctx}
 use Rattle.ak_base.proofs.Lists.{all_push}
@@ -24,16 +24,15 @@ use Rattle.ak_script.specs.declared.statement.GuardMode.TheVariants as mode
 use Rattle.ak_machine.specs.declared.held.Callback.{Callback}
 use Rattle.ak_machine.specs.declared.held.Handler.TheVariants.{OfGuard}
 use Rattle.ak_machine.specs.declared.held.Purpose.{Purpose}
-use Rattle.ak_machine.specs.declared.held.Purpose.TheVariants.{ForAll, ForAny, ForChoice, ForGuard}
+use Rattle.ak_machine.specs.declared.held.Purpose.TheVariants.{ForAny, ForGuard}
 use Rattle.ak_machine.specs.State.{State}
 use Rattle.ak_machine.specs.Deferred.{noting, plain_task, called, fill, register}
-use Rattle.ak_machine.specs.Mapped.{purpose_mapped, callback_mapped, state_named}
+use Rattle.ak_machine.specs.Mapped.{purpose_mapped, state_named}
 use Rattle.ak_machine.specs.Monitors.{with_monitor, detach, handled_by, in_monitor}
 use Rattle.ak_machine.specs.Groups.{group_at, purpose_at, with_group, decided, guard_decided, guard_catches, guard_acts, guard_filled, try_done, guard_waits, try_waits, try_begun}
-use Rattle.ak_state.specs.Seen.{Seen, raw_state, seen, doing}
+use Rattle.ak_state.specs.Seen.{raw_state, seen, doing}
 use Rattle.ak_state.specs.Drawn.{Drawn, drawn, More}
-use Rattle.ak_state.specs.Fits.{CallFits, ValueCallFits, GuardFits, PurposeFits, StateFits, Fits, FitsSome}
-use Rattle.ak_state.specs.Guards.{catch_of, IsGuardOf}
+use Rattle.ak_state.specs.Fits.{CallFits, ValueCallFits, GuardFits, PurposeFits, Fits, FitsSome}
 use Rattle.ak_state.proofs.Stands.{seen_as}
 use Rattle.ak_state.proofs.Fitting.{Grows, same_grows, kept_grows, then_grows, grown_fits, noted_grows, enqueue_grows, fill_grows, register_grows, call_more, value_call}
 use Rattle.ak_state.proofs.Monitors.{child_drawn, child_grows, detach_grows, attach_grows, handled_grows}

@@ -1,5 +1,5 @@
 -- What each change of the monitors does to the state that the parts stand for, and to what fits.
-use Rattle.std.proofs.Common.{◌≡◌, ℕ, zero, suc, ◌+◌, ◌<◌, List, [], ◌∷◌, ◌++◌, length, map, refl, ap, sym, ◌∙◌, arith, true, false}
+use Rattle.std.proofs.Common.{◌≡◌, ℕ, zero, suc, ◌+◌, ◌<◌, List, [], ◌∷◌, ◌++◌, length, map, ap, sym, ◌∙◌, arith, true, false}
 use Rattle.std.specs.Prelude.{slice_set}
 use Rattle.std.specs.List.{AllByRecursion}
 use Rattle.std.proofs.lemmas.List.{map-append, map-set, length-map, length-append}
@@ -19,7 +19,7 @@ use Rattle.ak_machine.specs.declared.held.Handler.{Handler}
 use Rattle.ak_machine.specs.State.{State}
 use Rattle.ak_machine.specs.Mapped.{handler_mapped, handled_mapped, monitor_mapped, state_named}
 use Rattle.ak_machine.specs.Monitors.{with_monitor, detach, attach, handled_by, next_error_awaited}
-use Rattle.ak_state.specs.Seen.{Seen, raw_state, seen, doing}
+use Rattle.ak_state.specs.Seen.{raw_state, seen, doing}
 use Rattle.ak_state.specs.Drawn.{Drawn, drawn, More}
 use Rattle.ak_state.specs.Fits.{ActFits, ActorFits, MonitorFits, Fits}
 use Rattle.ak_state.proofs.Stands.{seen_as}

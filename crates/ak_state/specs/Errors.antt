@@ -2,7 +2,6 @@
 use Rattle.std.specs.Prelude.{ℕ, ℤ, ◌≡◌, ◌<◌, List, Option, Some, None, fold, length, slice_get}
 use Rattle.std.specs.List.{AllByRecursion}
 use Rattle.ak_base.specs.declared.number.Ctx.{Ctx}
-use Rattle.ak_frames.specs.declared.frame.Task.{Task}
 use Rattle.ak_trace.specs.declared.entry.Entry.{Entry}
 use Rattle.ak_monitor.specs.Monitors.{monitor_in, path, up_to}
 use Rattle.ak_machine.specs.declared.flow.Flow.{Flow}

@@ -7,7 +7,7 @@ use Rattle.ak_machine.specs.Job.{Over, returned}
 use Rattle.ak_state.specs.Reads.{named}
 use Rattle.ak_state.specs.Seen.{Seen}
 use Rattle.ak_state.specs.Drawn.{drawn}
-use Rattle.ak_state.specs.Fits.{RetFits, Fits, FitsSome}
+use Rattle.ak_state.specs.Fits.{RetFits, Fits}
 use Rattle.ak_state.specs.Errors.{after_is}
 use Rattle.ak_state.proofs.Errors.{send_grows}
 use Rattle.ak_exec.specs.Typed.{IsReturned}

@@ -1,4 +1,4 @@
-use Rattle.std.proofs.Common.{◌≡◌, sym, ap, ◌∙◌}
+use Rattle.std.proofs.Common.{sym, ap, ◌∙◌}
 use Rattle.ak_cells.specs.Names.{name_in, trimmed}
 use Rattle.ak_state.proofs.Errors.{catcher_mapped}
 use Rattle.ak_state.proofs.parts.Parts.catcher.Goals as goal

@@ -1,4 +1,4 @@
-use Rattle.std.proofs.Common.{◌≡◌, ◌∙◌, ◌+◌, ◌<◌, ◌≤◌, length, drop, fold, arith, ap, w64, to_z, of_z}
+use Rattle.std.proofs.Common.{◌∙◌, ◌+◌, ◌<◌, ◌≤◌, length, drop, fold, arith, ap, w64, to_z, of_z}
 use Rattle.std.specs.Prelude.{slice_get}
 use Rattle.ak_machine.specs.Errors.{handler_acts}
 use Rattle.ak_state.specs.Errors.{handlers_of, acted_by, acted_at}

@@ -1,4 +1,4 @@
-use Rattle.std.proofs.Common.{◌≡◌, ◌<◌, ◌≤◌, length, refl, arith, w64, to_z, of_z}
+use Rattle.std.proofs.Common.{◌≡◌, ◌≤◌, length, refl, arith, w64, to_z, of_z}
 use Rattle.ak_state.specs.Errors.{path_filled}
 use Rattle.ak_state.specs.Fits.{Fits}
 use Rattle.ak_state.proofs.Errors.{path_filled_grows}
