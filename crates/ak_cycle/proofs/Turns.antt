@@ -205,9 +205,16 @@ idle_asks w quiet works e q qt d n asked =
     (empty_by (is_empty_list w.plain.works) works d n))
 
 -- ---- the turns that are left
-few : (b : Bool) → cond b 0 1 ≤ 1
-few true = omega arith
-few false = omega arith
+few : (b c : Bool) → cond b 0 (cond c 2 1) ≤ 2
+few true c = omega arith
+few false true = omega arith
+few false false = omega arith
+
+-- where jobs are all that is left to do
+one_at_most : (b c : Bool) → b ≡ c → cond b 0 (cond c 2 1) ≤ 1
+one_at_most true c e = omega arith
+one_at_most false true e = absurd (cc)
+one_at_most false false e = omega arith
 
 ran_one : (o : Option (Job Task)) (n : ℕ) → is_some_job o ≡ true → ran_with o n ≡ n + 1
 ran_one (Some job) n e = refl
@@ -219,17 +226,19 @@ job_leaves w w' e unspent is =
     let c : w'.config ≡ w.config = ap (λ (x : Worldly). x.config) is
     in let r : w'.ran ≡ w.ran + 1 = ap (λ (x : Worldly). x.ran) is ∙ ran_one (pick_of w.plain.queues) w.ran e
     in let j : w'.config.jobs ≡ w.config.jobs = ap (λ (x : Worldly). x.config.jobs) is
-    in let f = few (has_pick w'.plain.queues)
-    in omega (arith, r, j, f, unspent)
-
-pub cycle_leaves : (w w' : Worldly) → has_pick w.plain.queues ≡ false → has_pick w'.plain.queues ≡ true → w'.config ≡ w.config → w'.ran ≡ w.ran
-    → turns_left w' < turns_left w
-cycle_leaves w w' e d c r =
-    let j : w'.config.jobs ≡ w.config.jobs = ap (λ x. x.jobs) c
-    in let one : ℕ = 1
-    in let a : cond (has_pick w.plain.queues) 0 1 ≡ one = ap (λ b. cond b 0 1) e
+    in let f = few (has_pick w'.plain.queues) (has_more w'.plain)
     in let none : ℕ = 0
-    in let b : cond (has_pick w'.plain.queues) 0 1 ≡ none = ap (λ b. cond b 0 1) d
+    in let p : cond (has_pick w.plain.queues) 0 (cond (has_more w.plain) 2 1) ≡ none = ap (λ b. cond b 0 (cond (has_more w.plain) 2 1)) e
+    in omega (arith, r, j, f, p, unspent)
+
+pub cycle_leaves : (w w' : Worldly) → has_pick w.plain.queues ≡ false → has_more w.plain ≡ true → has_pick w'.plain.queues ≡ has_more w'.plain
+    → w'.config ≡ w.config → w'.ran ≡ w.ran → turns_left w' < turns_left w
+cycle_leaves w w' e m d c r =
+    let j : w'.config.jobs ≡ w.config.jobs = ap (λ x. x.jobs) c
+    in let two : ℕ = 2
+    in let a : cond (has_pick w.plain.queues) 0 (cond (has_more w.plain) 2 1) ≡ two =
+    ap (λ b. cond b 0 (cond (has_more w.plain) 2 1)) e ∙ ap (λ b. cond b 2 1) m
+    in let b = one_at_most (has_pick w'.plain.queues) (has_more w'.plain) d
     in omega (arith, j, a, b, r)
 
 -- ---- a turn as a whole
@@ -263,12 +272,12 @@ limit_turned w w' e spent is free = record {
   free = ap (λ (x : Worldly). x.picked) is ∙ free;
 }
 
-pub cycle_turned : (w w' : Worldly) → has_pick w.plain.queues ≡ false → has_more w.plain ≡ true → has_pick w'.plain.queues ≡ has_more w.plain
+pub cycle_turned : (w w' : Worldly) → has_pick w.plain.queues ≡ false → has_more w.plain ≡ true → has_pick w'.plain.queues ≡ has_more w'.plain
     → w' ≡ with_state (cycle_begun w.plain) w → w.picked ≡ None → IsTurned w true w'
 cycle_turned w w' e more picks is free = record {
   step = λ asked. cycle_goes w w' asked e more is;
   finished = λ off. absurd (cc);
-  left = λ on. cycle_leaves w w' e (picks ∙ more) (ap (λ (x : Worldly). x.config) is) (ap (λ (x : Worldly). x.ran) is);
+  left = λ on. cycle_leaves w w' e more picks (ap (λ (x : Worldly). x.config) is) (ap (λ (x : Worldly). x.ran) is);
   program_is = ap (λ (x : Worldly). x.program) is;
   config_is = ap (λ (x : Worldly). x.config) is;
   free = ap (λ (x : Worldly). x.picked) is ∙ free;

@@ -7,10 +7,16 @@ use Rattle.ak_labor.specs.Calls.{Reply, IsOpen}
 use Rattle.ak_labor.specs.Waits.{handed_by, answered_by, left_after}
 use Rattle.ak_rings.specs.Queues.{pick_of, has_pick}
 use Rattle.ak_labor.specs.declared.config.Config.{Config}
+use Rattle.ak_machine.specs.Cycle.{cycle_begun, has_more}
 use Rattle.ak_machine.specs.Run.{Machine, AtDrain, AtClose, Wants, ran_to, picked, machine_after}
 use Rattle.ak_machine.specs.Status.{Stat, Well, ByError, AtJobLimit, Stuck, Unfinished, status_of}
 use Rattle.ak_program.specs.Programs.{NumProgram}
-use Rattle.ak_exec.specs.Worlds.{Worldly}
+use Rattle.ak_exec.specs.Worlds.{Worldly, first_state}
+
+-- a world whose first cycle has begun
+abbrev pub first_world : NumProgram → Config → Worldly
+first_world program config =
+    record { program = program; config = config; plain = cycle_begun (first_state program config); picked = None; ran = 0 }
 
 -- the machine that waits for the reply to a drain, where these were asked before
 abbrev pub at_drain : Worldly → List Ask → Machine
@@ -46,9 +52,10 @@ IsFinished AtJobLimit = Unit {0}
 IsFinished Stuck = Unit {0}
 IsFinished Unfinished = ⊥
 
--- how many turns may follow: two for each job that is left, and one where no job can be picked now
+-- how many turns may follow: three for each job that is left; and where no job can be picked now, two more where something is left
+-- to do, and else one
 abbrev pub turns_left : Worldly → ℕ
-turns_left w = 2 * (w.config.jobs - w.ran) + (if has_pick w.plain.queues then 0 else 1)
+turns_left w = 3 * (w.config.jobs - w.ran) + (if has_pick w.plain.queues then 0 else if has_more w.plain then 2 else 1)
 
 -- the same where the run goes on, and else none
 abbrev pub left_where : Bool → Worldly → ℕ

@@ -12,9 +12,10 @@ ghost use Rattle.ak_program.specs.Programs.{NumProgram};
 ghost use Rattle.ak_exec.specs.Built.{AreBuilt};
 ghost use Rattle.ak_laws.specs.Laws.{ObeysLaws};
 ghost use Rattle.ak_cycle.specs.Runs.{HasEndedWith, WantsLast, WantsNext, IsNoMemory, EndsIdle, EndsClosed};
-ghost use Rattle.ak_cycle.specs.Turns.{IsAt, IsFinished, turns_left};
+ghost use Rattle.ak_cycle.specs.Turns.{IsAt, IsFinished, turns_left, first_world};
 
 use crate::turn::advance;
+use ak_base::list::NoMemory;
 use ak_exec::world::{World, begin_cycle, set_left, trace};
 use ak_labor::config::Config;
 use ak_labor::port::{Port, PortError};
@@ -69,14 +70,51 @@ pub fn run<P: Port>(
     // For the proof alone: the program is sound, and so its runs obey the laws.
     let _main = program.main();
     obeys_laws();
+    let mut world = begin(alloc, program, config)?;
+    let driven = drive(alloc, &mut world, port);
+    let trace = trace(world);
+    driven?;
+    Ok(trace)
+}
+
+// The world of a program, whose first cycle has begun.
+fn begin(alloc: Global, program: Program, config: Config) -> Result<World, NoMemory>
+    requires built { AreBuilt program.procs }
+    requires limit { 1 ≤ config.limit }
+    requires no_askers { config.askers ≡ 0 }
+    ensures { IfOk result (λ world. world ≡ first_world program config) }
+{
     let mut world = World::make(alloc, program, config)?;
     begin_cycle(&mut world)?;
+    Ok(world)
+}
+
+// Turns, to the end of the run, and the close of the port.
+fn drive<P: Port>(alloc: Global, world: &mut World, port: &mut P) -> Result<(), PortError<P::Fault>>
+    requires at { IsAt true world.old.program world.old.config world.old
+        (P.asked port.old) (P.replies port.old) (P.waits port.old) }
+    requires askers { world.old.config.askers ≡ P.askers port.old }
+    ensures ended { OnOk result (HasEndedWith
+        (run_of world.old.program world.old.config (P.replies port.new)) world.new.plain.trace
+        (P.asked port.new) (P.waits port.new)) }
+    ensures finished { OnOk result (IsFinished (status_of world.new.plain.trace)) }
+    ensures brought { OnOk result (outstanding (P.asked port.new) (P.replies port.new) ≡ []) }
+    ensures closed { OnOk result (EndsClosed (P.asked port.new)) }
+    ensures threads { P.threads port.new ≡ P.threads port.old }
+    ensures askers { P.askers port.new ≡ P.askers port.old }
+    ensures fault { IsFault result → WantsLast
+        (run_of world.old.program world.old.config (P.replies port.new))
+        (P.asked port.new) (P.replies port.new) (P.waits port.new) }
+    ensures memory { IsNoMemory result → WantsNext
+        (run_of world.old.program world.old.config (P.replies port.new))
+        (P.asked port.new) (P.replies port.new) (P.waits port.new) }
+{
     let mut on = true;
     while on {
-        on = turn(alloc, &mut world, port)?;
+        on = turn(alloc, world, port)?;
     }
     port.close()?;
-    Ok(trace(world))
+    Ok(())
 }
 
 // One drain, and what follows it. The answer is whether the run goes on.

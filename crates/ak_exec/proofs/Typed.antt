@@ -24,6 +24,7 @@ use Rattle.ak_machine.specs.declared.flow.Flow.{Flow}
 use Rattle.ak_machine.specs.declared.flow.Flow.TheVariants as flow
 use Rattle.ak_machine.specs.declared.held.Callback.{Callback}
 use Rattle.ak_machine.specs.declared.held.Handler.TheVariants.{OnError}
+use Rattle.ak_machine.specs.Alarms.{with_yield}
 use Rattle.ak_machine.specs.State.{State, next_ivar}
 use Rattle.ak_machine.specs.Number.{Computed, Gives, Overflows, DividesByZero, computed}
 use Rattle.ak_machine.specs.Deferred.{noting, plain_task, with_ivar, is_empty, fill, register}
@@ -39,6 +40,7 @@ use Rattle.ak_state.specs.Fits.{ValueFits, ValsFit, kinds_of, RetFits, CallFits,
 use Rattle.ak_exec.specs.Typed.{kinds_after, AreTyped, IsReturned, EffectFits, IsUnderWay}
 use Rattle.ak_exec.proofs.Values.{ivar_at, def_at, mon_at, num_at, returned_at, call_bound, call_fits, value_call_fits, all_front, all_back, vals_push}
 use Rattle.ak_state.specs.Reads.{IsMonitor}
+use Rattle.ak_state.proofs.Alarms.{yield_grows}
 use Rattle.ak_state.proofs.Fitting.{Grows, kept_grows, then_grows, vals_grow, ret_grows, noted_grows, enqueue_grows, fill_grows, register_grows, register_drawn, ivar_grows, drawn_one}
 use Rattle.ak_state.proofs.Monitors.{child_drawn, child_grows, detach_grows, handled_grows, awaited_grows}
 use Rattle.ak_state.proofs.Groups.{try_begun_grows}
@@ -65,6 +67,7 @@ ready program kinds prefix line (stmt.Bind r d proc args) s vals f h built =
     (def_at (drawn s) kinds vals d f h.uses.0, call_bound program (drawn s) kinds vals proc 1 args f h.calls.0)
 ready program kinds prefix line (stmt.Sched proc args) s vals f h built = call_bound program (drawn s) kinds vals proc 0 args f h.calls.0
 ready program kinds prefix line (stmt.Low proc args) s vals f h built = call_bound program (drawn s) kinds vals proc 0 args f h.calls.0
+ready program kinds prefix line (stmt.Yield r) s vals f h built = tt
 ready program kinds prefix line (stmt.Never r) s vals f h built = tt
 ready program kinds prefix line (stmt.Monitor m) s vals f h built = tt
 ready program kinds prefix line (stmt.Within m proc args) s vals f h built =
@@ -157,6 +160,8 @@ effect_fits program ctx kinds prefix line (stmt.Print a) s vals mon f h built g 
     goes_fit program kinds s (noting (entry.Print (number_in vals a)) s) vals f (noted_grows program (entry.Print (number_in vals a)) s g)
 effect_fits program ctx kinds prefix line (stmt.Ivar i) s vals mon f h built g =
     binds_fit program kinds s (with_ivar s) vals Ivar (value.Ivar (length s.cells.ivars)) f (ivar_grows program s g) (omega (arith, drawn_one s))
+effect_fits program ctx kinds prefix line (stmt.Yield r) s vals mon f h built g =
+    binds_fit program kinds s (with_yield s) vals Def (value.Def (length s.cells.ivars)) f (yield_grows program s g) (omega (arith, drawn_one s))
 effect_fits program ctx kinds prefix line (stmt.Never r) s vals mon f h built g =
     binds_fit program kinds s (with_ivar s) vals Def (value.Def (length s.cells.ivars)) f (ivar_grows program s g) (omega (arith, drawn_one s))
 effect_fits program ctx kinds prefix line (stmt.Fill i a) s vals mon f h built g =

@@ -1,5 +1,5 @@
 -- A world that is whole stays so.
-use Rattle.std.proofs.Common.{◌≡◌, ℕ, [], refl, sym, subst}
+use Rattle.std.proofs.Common.{◌≡◌, ℕ, [], refl, sym, subst, arith}
 use Rattle.std.specs.Prelude.{Option, None, IfSome}
 use Rattle.std.specs.Option.{option_map}
 use Rattle.ak_cells.specs.Names.{name_in}
@@ -87,6 +87,7 @@ emptied_whole program config picked ran s s' e h = record {
         monitors = (record { next_errors = tt; actors = tt }, tt);
         purposes = tt;
         paired = refl;
+        clock = record { yields = tt; alarms = tt; numbered = tt; few = omega arith };
       });
   picked = tt;
   held = subst (HeldBy program.procs []) (sym e) (none_held program.procs config.limit config.askers);

@@ -6,7 +6,7 @@ use Rattle.ak_program.specs.declared.program.NumProc.{NumProc}
 use Rattle.ak_program.specs.declared.statement.NumStmt.{NumStmt}
 use Rattle.ak_program.specs.declared.statement.NumStmt.TheVariants as stmt
 
--- numbers, ivars, handlers, calls, monitors and errors; not yet groups, the clock, throttles, pipes and works
+-- numbers, ivars, handlers, calls, yields, monitors and errors; not yet groups, alarms, throttles, pipes and works
 abbrev pub IsBuiltStmt : NumStmt → Type 0
 IsBuiltStmt (stmt.Set x a op b) = Unit {0}
 IsBuiltStmt (stmt.Print a) = Unit {0}
@@ -17,6 +17,7 @@ IsBuiltStmt (stmt.Upon d proc args) = Unit {0}
 IsBuiltStmt (stmt.Bind r d proc args) = Unit {0}
 IsBuiltStmt (stmt.Sched proc args) = Unit {0}
 IsBuiltStmt (stmt.Low proc args) = Unit {0}
+IsBuiltStmt (stmt.Yield r) = Unit {0}
 IsBuiltStmt (stmt.Never r) = Unit {0}
 IsBuiltStmt (stmt.Monitor m) = Unit {0}
 IsBuiltStmt (stmt.Within m proc args) = Unit {0}

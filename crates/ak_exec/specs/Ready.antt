@@ -25,6 +25,7 @@ IsReady s vals (stmt.Upon d proc args) = IsDeferredAt s vals d × AreBound vals 
 IsReady s vals (stmt.Bind r d proc args) = IsDeferredAt s vals d × AreBound vals args
 IsReady s vals (stmt.Sched proc args) = AreBound vals args
 IsReady s vals (stmt.Low proc args) = AreBound vals args
+IsReady s vals (stmt.Yield r) = Unit {0}
 IsReady s vals (stmt.Never r) = Unit {0}
 IsReady s vals (stmt.Monitor m) = Unit {0}
 IsReady s vals (stmt.Within m proc args) = IsMonitorAt s vals m × AreBound vals args

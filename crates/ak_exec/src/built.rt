@@ -46,6 +46,7 @@ fn is_built(stmt: &NumStmt) -> bool
             | NumStmt::Bind { .. }
             | NumStmt::Sched { .. }
             | NumStmt::Low { .. }
+            | NumStmt::Yield { .. }
             | NumStmt::Never { .. }
             | NumStmt::Monitor { .. }
             | NumStmt::Within { .. }

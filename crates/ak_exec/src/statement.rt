@@ -6,6 +6,7 @@ ghost use Rattle.ak_state.specs.Reads.{named};
 ghost use Rattle.ak_exec.specs.Ready.{IsReady};
 ghost use Rattle.ak_exec.specs.Steps.{Does};
 
+use crate::statements::alarms::yield_cycle;
 use crate::statements::deferred::{bind, fill, ivar, never, offer, upon};
 use crate::statements::groups::try_body;
 use crate::statements::jobs::{call, raise, ret};
@@ -53,6 +54,7 @@ pub fn run_statement(
             call(parts, Ctx { low: false, ..ctx }, vals, *proc, args)
         }
         NumStmt::Low { proc, args } => { call(parts, Ctx { low: true, ..ctx }, vals, *proc, args) }
+        NumStmt::Yield { r } => yield_cycle(parts, ctx, vals, *r),
         NumStmt::Never { r } => never(parts, ctx, vals, *r),
         NumStmt::Monitor { m } => monitor(parts, ctx, vals, *m),
         NumStmt::Within { m, proc, args } => within(parts, ctx, vals, *m, *proc, args),

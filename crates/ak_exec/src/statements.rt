@@ -1,5 +1,6 @@
 //! The statements, by groups.
 
+pub mod alarms;
 pub mod deferred;
 pub mod groups;
 pub mod jobs;

@@ -146,18 +146,24 @@ pub fn run_frame(world: &mut World) -> Result<Flow, NoMemory>
     }
 }
 
-/// Begins a cycle. There is a job to pick then exactly where something was left to do.
+/// Begins a cycle: the pending yields are filled, and then the alarms that are due. There is a job to pick then exactly
+/// where something is left to do.
 ///
 /// # Errors
 ///
-/// `NoMemory`. The world is then as before.
+/// `NoMemory`. The world is given up then.
 pub fn begin_cycle(world: &mut World) -> Result<(), NoMemory>
     ensures world { OnOk result (world.new ≡ with_state (cycle_begun world.old.plain) world.old) }
-    ensures picks { OnOk result (has_pick world.new.plain.queues ≡ has_more world.old.plain) }
-    ensures err { OnErr result (world.new ≡ world.old) }
+    ensures picks { OnOk result (has_pick world.new.plain.queues ≡ has_more world.new.plain) }
 {
-    world.parts.begin_cycle()?;
-    Ok(())
+    match world.parts.begin_cycle() {
+        Ok(()) => Ok(()),
+        Err(e) => {
+            world.picked = None;
+            world.parts.reset(world.config.limit, world.config.askers);
+            Err(e)
+        }
+    }
 }
 
 /// Whether a job waits in a queue, a yield is pending or an alarm is due.

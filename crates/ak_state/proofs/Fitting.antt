@@ -5,6 +5,7 @@ use Rattle.std.specs.List.{AllByRecursion, slice_get}
 use Rattle.std.proofs.lemmas.List.{length-append, length-map}
 use Rattle.std.proofs.Math.ListN.{length-set}
 use Rattle.ak_base.specs.declared.number.Ctx.{Ctx}
+use Rattle.ak_base.specs.Lists.{rest_of}
 use Rattle.ak_base.proofs.Lists.{all_push}
 use Rattle.ak_script.specs.declared.script.Kind.{Kind}
 use Rattle.ak_script.specs.declared.script.Kind.TheVariants.{Num, Ivar, Def, Mon, Pipe, Thr, Event, Helper}
@@ -12,6 +13,9 @@ use Rattle.ak_rings.specs.declared.job.Job.{Job}
 use Rattle.ak_rings.specs.Queues.{Queues, recounted}
 use Rattle.ak_clock.specs.declared.alarm.Alarm.{Alarm}
 use Rattle.ak_clock.specs.Clock as clock
+use Rattle.ak_clock.specs.Order.{number_of}
+use Rattle.ak_base.specs.Numbers.{AreNumbered}
+use Rattle.ak_base.proofs.Numbers.{numbered_filtered}
 use Rattle.ak_cells.specs.declared.registration.Registration.{Registration}
 use Rattle.ak_cells.specs.Names.{renamed}
 use Rattle.ak_cells.specs.Cells.{is_on, is_off, filled, waiting_on}
@@ -31,12 +35,12 @@ use Rattle.ak_machine.specs.declared.held.Handler.TheVariants.{OnError, OfGuard}
 use Rattle.ak_machine.specs.declared.held.Purpose.{Purpose}
 use Rattle.ak_machine.specs.declared.held.Purpose.TheVariants.{ForGuard}
 use Rattle.ak_machine.specs.State.{State}
-use Rattle.ak_machine.specs.Alarms.{yields_filled, alarm_filled}
+use Rattle.ak_machine.specs.Alarms.{yields_filled, alarm_filled, alarms_filled}
 use Rattle.ak_machine.specs.Cycle.{cycle_begun}
 use Rattle.ak_machine.specs.Deferred.{noting, enqueue, woken_task, with_ivar, woken_by, number_at, fill_empty, fill_at, fill, filled_with, register_at, register, connect_at, connect}
-use Rattle.ak_machine.specs.Mapped.{value_mapped, values_mapped, ret_mapped, frame_mapped, job_mapped, registration_mapped, handler_mapped, handled_mapped, monitor_mapped, purpose_mapped, state_renamed}
+use Rattle.ak_machine.specs.Mapped.{value_mapped, values_mapped, ret_mapped, frame_mapped, job_mapped, registration_mapped, handler_mapped, handled_mapped, monitor_mapped, purpose_mapped, alarm_mapped, clock_mapped, state_renamed}
 use Rattle.ak_state.specs.Drawn.{Drawn, drawn, More}
-use Rattle.ak_state.specs.Fits.{ValueFits, ValsFit, kinds_of, RetFits, CallFits, ValueCallFits, FrameFits, HeldFits, JobFits, HandlerFits, ActFits, ActorFits, MonitorFits, PurposeFits, StateFits, Fits}
+use Rattle.ak_state.specs.Fits.{ValueFits, ValsFit, kinds_of, RetFits, CallFits, ValueCallFits, FrameFits, HeldFits, JobFits, HandlerFits, ActFits, ActorFits, MonitorFits, PurposeFits, AlarmFits, ClockFits, StateFits, Fits}
 
 -- ---- lists
 all_map : {A B : Type 0} (P : A → Type 0) (Q : B → Type 0) (f : A → B) (h : (x : A) → P x → Q (f x)) (xs : List A) → AllByRecursion P xs
@@ -48,7 +52,7 @@ pub all_by : {A : Type 0} (P Q : A → Type 0) (h : (x : A) → P x → Q x) (xs
 all_by P Q h [] p = tt
 all_by P Q h (x ∷ xs) p = (h x p.0, all_by P Q h xs p.1)
 
-all_filter : {A : Type 0} (P : A → Type 0) (p : A → Bool) (xs : List A) → AllByRecursion P xs → AllByRecursion P (filter p xs)
+pub all_filter : {A : Type 0} (P : A → Type 0) (p : A → Bool) (xs : List A) → AllByRecursion P xs → AllByRecursion P (filter p xs)
 all_filter P p [] h = tt
 all_filter P p (x ∷ xs) h = into (p x) (all_filter P p xs h.1)
   where
@@ -139,6 +143,17 @@ purpose_grows program n n' h (ForGuard ctx m mode c) f = record {
 }
 purpose_grows program n n' h x f = absurd f
 
+alarm_grows : (n n' : Drawn) → More n n' → (a : Alarm) → AlarmFits n a → AlarmFits n' a
+alarm_grows n n' h a f = omega (arith, h.ivars, f)
+
+clock_grows : (n n' : Drawn) → More n n' → (c : clock.Clock) → ClockFits n c → ClockFits n' c
+clock_grows n n' h c f = record {
+  yields = all_by (λ i. i < n.ivars) (λ i. i < n'.ivars) (λ i p. below_more n.ivars n'.ivars i h.ivars p) c.yields f.yields;
+  alarms = all_by (AlarmFits n) (AlarmFits n') (alarm_grows n n' h) c.alarms f.alarms;
+  numbered = f.numbered;
+  few = omega (arith, h.ivars, f.few);
+}
+
 -- ---- and as names change within the range
 value_mapped_fits : (g : ℕ → ℕ) (n : Drawn) → ((i : ℕ) → i < n.ivars → g i < n.ivars) → (kind : Kind) (v : Value) → ValueFits n kind v
     → ValueFits n kind (value_mapped g v)
@@ -209,6 +224,20 @@ purpose_fits_mapped program g n h (ForGuard ctx m mode c) f = record {
 }
 purpose_fits_mapped program g n h x f = absurd f
 
+numbered_mapped : (g : ℕ → ℕ) (low high : ℕ) (alarms : List Alarm) → AreNumbered number_of low high alarms
+    → AreNumbered number_of low high (map (alarm_mapped g) alarms)
+numbered_mapped g low high [] h = tt
+numbered_mapped g low high (a ∷ alarms) h = (h.0, h.1, numbered_mapped g (a.no + 1) high alarms h.2)
+
+clock_fits_mapped : (g : ℕ → ℕ) (n : Drawn) → ((i : ℕ) → i < n.ivars → g i < n.ivars) → (c : clock.Clock) → ClockFits n c
+    → ClockFits n (clock_mapped g c)
+clock_fits_mapped g n h c f = record {
+  yields = all_map (λ i. i < n.ivars) (λ i. i < n.ivars) g h c.yields f.yields;
+  alarms = all_map (AlarmFits n) (AlarmFits n) (alarm_mapped g) (λ a p. h a.ivar p) c.alarms f.alarms;
+  numbered = numbered_mapped g 0 c.next c.alarms f.numbered;
+  few = f.few;
+}
+
 -- ---- the changes of a state
 pub grown_fits : (program : List NumProc) (n n' : Drawn) (s : State) → More n n' → StateFits program n s → StateFits program n' s
 grown_fits program n n' s h f = record {
@@ -218,6 +247,7 @@ grown_fits program n n' s h f = record {
   monitors = all_by (MonitorFits program n) (MonitorFits program n') (monitor_grows program n n' h) s.monitors f.monitors;
   purposes = all_by (PurposeFits program n) (PurposeFits program n') (purpose_grows program n n' h) s.purposes f.purposes;
   paired = f.paired;
+  clock = clock_grows n n' h s.clock f.clock;
 }
 
 job_pushed : (program : List NumProc) (n : Drawn) (b : Bool) (job : Job Task) (q : Queues Task) (s : State)
@@ -233,6 +263,7 @@ job_pushed program n true job q s f p e = record {
   monitors = f.monitors;
   purposes = f.purposes;
   paired = f.paired;
+  clock = f.clock;
 }
 job_pushed program n false job q s f p e = record {
   handlers = f.handlers;
@@ -241,6 +272,7 @@ job_pushed program n false job q s f p e = record {
   monitors = f.monitors;
   purposes = f.purposes;
   paired = f.paired;
+  clock = f.clock;
 }
 
 enqueue_fits : (program : List NumProc) (n : Drawn) (ctx : Ctx) (task : Task) (s : State) → StateFits program n s → HeldFits program n ctx task.frame
@@ -260,6 +292,7 @@ register_at_fits program n None i ctx frame s f p =
       monitors = f.monitors;
       purposes = f.purposes;
       paired = f.paired;
+      clock = f.clock;
     }
 
 woken_fits : (program : List NumProc) (n : Drawn) (v : ℤ) (gs : List (Registration Frame)) (s : State) → StateFits program n s
@@ -277,6 +310,7 @@ fill_empty_fits program n i v s f =
       monitors = f.monitors;
       purposes = f.purposes;
       paired = f.paired;
+      clock = f.clock;
     })
     (all_filter (HandlerFits program n) (is_on i) s.cells.registrations f.handlers)
 
@@ -306,6 +340,7 @@ renamed_fits program n from to s h f =
       monitors = all_map (MonitorFits program n) (MonitorFits program n) (monitor_mapped g) (monitor_fits_mapped program g n p) s.monitors f.monitors;
       purposes = all_map (PurposeFits program n) (PurposeFits program n) (purpose_mapped g) (purpose_fits_mapped program g n p) s.purposes f.purposes;
       paired = length-map s.purposes (purpose_mapped g) ∙ f.paired;
+      clock = clock_fits_mapped g n p s.clock f.clock;
     }
 
 connect_at_fits : (program : List NumProc) (n : Drawn) (b : Bool) (o p : Option ℤ) (result right : ℕ) (s : State) → result < n.ivars
@@ -405,14 +440,58 @@ alarms_filled_grow program (alarm ∷ alarms) s f =
     in then_grows program s (alarm_filled s alarm) (fold alarm_filled (alarm_filled s alarm) alarms) one
     (alarms_filled_grow program alarms (alarm_filled s alarm) one.fits)
 
+pub clock_set_grows : (program : List NumProc) (c : clock.Clock) (s : State) → Fits program s → ClockFits (drawn s) c
+    → Grows program s (record s { clock = c })
+clock_set_grows program c s f p = record {
+  more = same_more (drawn s);
+  fits =
+      record {
+        handlers = f.handlers;
+        normal = f.normal;
+        low = f.low;
+        monitors = f.monitors;
+        purposes = f.purposes;
+        paired = f.paired;
+        clock = p;
+      };
+}
+
+pub rest_all : {A : Type 0} (P : A → Type 0) (xs : List A) → AllByRecursion P xs → AllByRecursion P (rest_of xs)
+rest_all P [] h = tt
+rest_all P (x ∷ xs) h = h.1
+
+-- with only some of the alarms
+pub fewer_alarms : (n : Drawn) (p : Alarm → Bool) (c : clock.Clock) → ClockFits n c → ClockFits n (record c { alarms = filter p c.alarms })
+fewer_alarms n p c f = record {
+  yields = f.yields;
+  alarms = all_filter (AlarmFits n) p c.alarms f.alarms;
+  numbered = numbered_filtered number_of p 0 c.next c.alarms f.numbered;
+  few = f.few;
+}
+
+without_yields_grows : (program : List NumProc) (s : State) → Fits program s → Grows program s (record s { clock = clock.without_yields s.clock })
+without_yields_grows program s f =
+    clock_set_grows program (clock.without_yields s.clock) s f
+    (record { yields = tt; alarms = f.clock.alarms; numbered = f.clock.numbered; few = f.clock.few })
+
+pub yields_filled_grow : (program : List NumProc) (s : State) → Fits program s → Grows program s (yields_filled s)
+yields_filled_grow program s f =
+    let t : State = record s { clock = clock.without_yields s.clock }
+    in let one = without_yields_grows program s f
+    in then_grows program s t (yields_filled s) one (all_filled_grow program (pos 0) s.clock.yields t one.fits)
+
+pub alarms_filled_grows : (program : List NumProc) (s : State) → Fits program s → Grows program s (alarms_filled s)
+alarms_filled_grows program s f =
+    let t : State = record s { clock = clock.without_due s.clock }
+    in let one = clock_set_grows program (clock.without_due s.clock) s f (fewer_alarms (drawn s) (clock.is_early s.clock.time) s.clock f.clock)
+    in then_grows program s t (alarms_filled s) one (alarms_filled_grow program (clock.due_alarms s.clock) t one.fits)
+
 pub cycle_grows : (program : List NumProc) (s : State) → Fits program s → Grows program s (cycle_begun s)
 cycle_grows program s f =
     let t : State = noting entry.Cycle (record s { queues = recounted s.queues })
-    in let t' : State = record t { clock = clock.without_yields t.clock }
-    in let one = all_filled_grow program (pos 0) t.clock.yields t' f
-    in let u : State = yields_filled t
-    in let two = alarms_filled_grow program (clock.due_alarms u.clock) (record u { clock = clock.without_due u.clock }) one.fits
-    in record { more = more_more (drawn s) (drawn u) (drawn (cycle_begun s)) one.more two.more; fits = two.fits }
+    in let one = yields_filled_grow program t f
+    in let two = alarms_filled_grows program (yields_filled t) one.fits
+    in record { more = more_more (drawn s) (drawn (yields_filled t)) (drawn (cycle_begun s)) one.more two.more; fits = two.fits }
 
 -- ---- any number may stand in front of the values of a call
 first_any : (n : Drawn) (params : List Kind) (z : ℤ) (vals : List Value) → ValsFit n params (value.Num (pos 0) ∷ vals)

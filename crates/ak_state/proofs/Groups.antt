@@ -129,6 +129,7 @@ group_grows program purpose s f p =
             monitors = g.monitors;
             purposes = all_push (PurposeFits program (drawn t)) s.purposes purpose g.purposes p;
             paired = omega (arith, length-append s.purposes (purpose ∷ []), group_drawn purpose s, f.paired);
+            clock = g.clock;
           };
     }
 
@@ -143,6 +144,7 @@ decided_grows program g s f =
       monitors = f.monitors;
       purposes = f.purposes;
       paired = f.paired ∙ sym (length-set s.groups g x);
+      clock = f.clock;
     })
 
 guard_decided_grows : (program : List NumProc) (kind : GuardMode) (m g : ℕ) (s : State) → Fits program s → Grows program s (guard_decided kind m g s)

@@ -5,3 +5,4 @@ pub mod Fitting
 pub mod Monitors
 pub mod Groups
 pub mod Errors
+pub mod Alarms

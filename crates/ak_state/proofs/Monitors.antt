@@ -156,6 +156,7 @@ child_grows program parent s f =
                 (fresh_fits program (drawn (with_monitor parent s)) parent);
             purposes = g.purposes;
             paired = g.paired;
+            clock = g.clock;
           };
     }
 
@@ -171,6 +172,7 @@ set_grows program m x s f p =
       monitors = all_set (MonitorFits program (drawn s)) s.monitors m x f.monitors p;
       purposes = f.purposes;
       paired = f.paired;
+      clock = f.clock;
     })
 
 pub detach_grows : (program : List NumProc) (m : ℕ) (s : State) → Fits program s → Grows program s (detach m s)

@@ -1,10 +1,10 @@
 -- What each change of the parts does to the state that they stand for.
-use Rattle.std.proofs.Common.{ℕ, ◌≡◌, List, [], ◌∷◌, ◌++◌, length, map, fold, refl, ap, sym, ◌∙◌, subst, ◌<◌, Bool, true, false, not, ◌||◌, cond}
+use Rattle.std.proofs.Common.{ℕ, ◌≡◌, List, [], ◌∷◌, ◌++◌, length, map, fold, refl, ap, sym, ◌∙◌, subst, ◌<◌, Bool, true, false, cond}
 use Rattle.std.proofs.lemmas.List.{length-map}
 use Rattle.std.specs.Prelude.{ℤ, Option, Some, None, is_none, ◌==◌}
 use Rattle.ak_base.specs.declared.number.Ctx.{Ctx}
 use Rattle.ak_base.specs.Lists.{first_of, rest_of}
-use Rattle.ak_rings.specs.Queues.{Queues, picked_from, has_no_job}
+use Rattle.ak_rings.specs.Queues.{Queues, picked_from}
 use Rattle.ak_cells.specs.declared.registration.Registration.{Registration}
 use Rattle.ak_cells.specs.declared.registration.Woken.{Woken}
 use Rattle.ak_cells.specs.declared.registration.Placed.TheVariants.{Kept, Full}
@@ -18,14 +18,12 @@ use Rattle.ak_frames.specs.declared.frame.Task.{Task}
 use Rattle.ak_trace.specs.declared.entry.Entry.{Entry}
 use Rattle.ak_trace.specs.declared.entry.Entry.TheVariants as entry
 use Rattle.ak_machine.specs.State.{State}
-use Rattle.ak_machine.specs.Cycle.{has_more}
 use Rattle.ak_machine.specs.Deferred.{enqueue, number_at, is_empty, with_ivar, fill_empty, fill_at, fill, woken_by, register_at, register, connect_at, connect}
 use Rattle.ak_machine.specs.Mapped.{task_mapped, frame_mapped, state_named}
 use Rattle.ak_machine.proofs.Mapped.{enqueue_named, fill_empty_named, register_at_named, state_named_law}
 use Rattle.ak_machine.proofs.Names.{name_in-own, name_in-renamed, trimmed-fresh, name_in-trimmed, name_in-drawn}
-use Rattle.ak_state.specs.declared.lists.Lists.{Lists}
-use Rattle.ak_state.specs.Seen.{Seen, IsKept, other_lists, raw_state, seen, doing, enqueued_for, with_jobs, without_pick}
-use Rattle.ak_state.proofs.Picks.{picked_mapped, no_job_mapped}
+use Rattle.ak_state.specs.Seen.{Seen, IsKept, raw_state, seen, doing, enqueued_for, with_jobs, without_pick}
+use Rattle.ak_state.proofs.Picks.{picked_mapped}
 
 -- a state beside names
 abbrev pub seen_as : List ℕ → State → Seen
@@ -263,15 +261,6 @@ seen_pick cells q t lists =
     ap (λ (x : Queues Task). seen_as (trimmed cells.names)
     (record (state_named (name_in (trimmed cells.names)) (raw_state cells q t lists)) { queues = x }))
     (sym (picked_mapped (name_in (trimmed cells.names)) q))
-
-more_by : (b c : Bool) → b ≡ c → not b ≡ (not c || false) || false
-more_by true c e = rw (sym e) refl
-more_by false c e = rw (sym e) refl
-
-pub more_seen : (cells : NamedCells Frame) (q : Queues Task) (t : List Entry) (lists : Lists)
-    → not (has_no_job q) ≡ has_more (seen cells q t (other_lists lists)).plain
-more_seen cells q t lists = more_by (has_no_job q) (has_no_job (seen cells q t (other_lists lists)).plain.queues)
-    (sym (no_job_mapped (name_in (trimmed cells.names)) q))
 
 -- an empty result is not found full
 never_by : (b : Bool) (o p : Option ℤ) → o ≡ None → cond b Same (connection_at o p) ≡ ResultFull → ⊥

@@ -1,5 +1,5 @@
 -- Which values, frames and handlers fit a program: each names what was drawn, and is of the kind that is wanted.
-use Rattle.std.specs.Prelude.{ℕ, pos, ◌<◌, ◌≡◌, List, [], ◌∷◌, map, length, slice_get, MatchOption}
+use Rattle.std.specs.Prelude.{ℕ, pos, ◌<◌, ◌≤◌, ◌≡◌, List, [], ◌∷◌, map, length, slice_get, MatchOption}
 use Rattle.std.specs.List.{AllByRecursion}
 use Rattle.ak_base.specs.declared.number.Ctx.{Ctx}
 use Rattle.ak_rings.specs.declared.job.Job.{Job}
@@ -16,6 +16,10 @@ use Rattle.ak_script.specs.declared.script.Kind.TheVariants.{Num, Ivar, Def, Mon
 use Rattle.ak_program.specs.declared.program.NumParam.{NumParam}
 use Rattle.ak_program.specs.declared.program.NumProc.{NumProc}
 use Rattle.ak_monitor.specs.Monitors.{Monitor}
+use Rattle.ak_base.specs.Numbers.{AreNumbered}
+use Rattle.ak_clock.specs.declared.alarm.Alarm.{Alarm}
+use Rattle.ak_clock.specs.Clock.{Clock}
+use Rattle.ak_clock.specs.Order.{number_of}
 use Rattle.ak_machine.specs.declared.held.Callback.{Callback}
 use Rattle.ak_machine.specs.declared.held.Handler.{Handler}
 use Rattle.ak_machine.specs.declared.held.Handler.TheVariants.{OnError, OfGuard}
@@ -104,19 +108,32 @@ abbrev pub PurposeFits : List NumProc → Drawn → Purpose → Type 0
 PurposeFits program n (ForGuard ctx m mode catch) = GuardFits program n ctx m catch
 PurposeFits program n other = ⊥
 
+-- an alarm: the deferred that it fills was drawn
+abbrev pub AlarmFits : Drawn → Alarm → Type 0
+AlarmFits n alarm = alarm.ivar < n.ivars
+
+-- what waits for a time or for the next cycle; no more alarms than ivars were numbered
+pub record ClockFits (n : Drawn) (c : Clock) : Type 0 where
+  pub yields : AllByRecursion (λ i. i < n.ivars) c.yields
+  pub alarms : AllByRecursion (AlarmFits n) c.alarms
+  pub numbered : AreNumbered number_of 0 c.next c.alarms
+  pub few : c.next ≤ n.ivars
+
 -- all that a state holds, list by list; each group has its purpose
 pub record ListsFit (program : List NumProc) (n : Drawn) (of_registrations : List (Registration Frame))
-    (of_normal of_low : List (Job Task)) (of_monitors : List (Monitor Handler)) (of_purposes : List Purpose) (groups : ℕ) : Type 0 where
+    (of_normal of_low : List (Job Task)) (of_monitors : List (Monitor Handler)) (of_purposes : List Purpose) (groups : ℕ)
+    (of_clock : Clock) : Type 0 where
   pub handlers : AllByRecursion (HandlerFits program n) of_registrations
   pub normal : AllByRecursion (JobFits program n) of_normal
   pub low : AllByRecursion (JobFits program n) of_low
   pub monitors : AllByRecursion (MonitorFits program n) of_monitors
   pub purposes : AllByRecursion (PurposeFits program n) of_purposes
   pub paired : length of_purposes ≡ groups
+  pub clock : ClockFits n of_clock
 
 abbrev pub StateFits : List NumProc → Drawn → State → Type 0
 StateFits program n s =
-    ListsFit program n s.cells.registrations s.queues.normal s.queues.low s.monitors s.purposes (length s.groups)
+    ListsFit program n s.cells.registrations s.queues.normal s.queues.low s.monitors s.purposes (length s.groups) s.clock
 
 -- all of a state fits a program
 abbrev pub Fits : List NumProc → State → Type 0

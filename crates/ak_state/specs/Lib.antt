@@ -4,3 +4,4 @@ pub mod Drawn
 pub mod Fits
 pub mod Guards
 pub mod Errors
+pub mod Alarms

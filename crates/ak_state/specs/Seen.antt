@@ -8,6 +8,7 @@ use Rattle.ak_frames.specs.declared.frame.Frame.{Frame}
 use Rattle.ak_frames.specs.declared.frame.Task.{Task}
 use Rattle.ak_trace.specs.declared.entry.Entry.{Entry}
 use Rattle.ak_monitor.specs.Monitors.{root_alone}
+use Rattle.ak_clock.specs.Clock.{clock_at_zero}
 use Rattle.ak_machine.specs.State.{State, initial_state}
 use Rattle.ak_machine.specs.Deferred.{enqueue, woken_task}
 use Rattle.ak_machine.specs.Mapped.{state_named}
@@ -18,14 +19,19 @@ pub record Seen : Type 0 where
   pub plain : State
   pub names : List ℕ
 
--- the root monitor alone, and so many askers
+-- the root monitor alone, the clock at 0, and so many askers
 abbrev pub no_lists : ℕ → Lists
-no_lists askers = record { monitors = root_alone; groups = []; purposes = []; left = askers }
+no_lists askers = record { monitors = root_alone; groups = []; purposes = []; clock = clock_at_zero; left = askers }
 
 -- the machine's other lists; nothing is in those that are not built
 abbrev pub other_lists : Lists → State
 other_lists lists =
-    record (initial_state 0 lists.left) { monitors = lists.monitors; groups = lists.groups; purposes = lists.purposes }
+    record (initial_state 0 lists.left) {
+      monitors = lists.monitors;
+      groups = lists.groups;
+      purposes = lists.purposes;
+      clock = lists.clock;
+    }
 
 -- the parts, with the numbers that they were given, beside the other lists
 abbrev pub raw_state : NamedCells Frame → Queues Task → List Entry → State → State

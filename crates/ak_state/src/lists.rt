@@ -5,21 +5,23 @@ ghost use Rattle.ak_state.specs.Seen.{no_lists};
 
 use ak_base::list::{Items, NoMemory};
 use ak_choice::groups::Groups;
+use ak_clock::clock::Clock;
 use ak_machine::held::{Handler, Purpose};
 use ak_monitor::tree::Tree;
 use std::alloc::Global;
 
-/// What waits for errors, and for decisions, with the numbers that it was given; and how many askers are left. Own.
+/// What waits for errors, for decisions and for a time, with the numbers that it was given; and how many askers are left. Own.
 #[derive(Debug, Drop)]
 pub struct Lists {
     pub monitors: Tree<Handler>,
     pub groups: Groups,
     pub purposes: Items<Purpose>,
+    pub clock: Clock,
     pub left: u32,
 }
 
 impl Lists {
-    /// The root monitor alone, and so many askers.
+    /// The root monitor alone, the clock at 0, and so many askers.
     pub fn make(alloc: Global, askers: u32) -> Result<Lists, NoMemory>
         ensures { IfOk result (λ l. l ≡ no_lists askers) }
     {
@@ -27,17 +29,19 @@ impl Lists {
             monitors: Tree::make(alloc)?,
             groups: Groups::make(alloc),
             purposes: Items::make(alloc),
+            clock: Clock::make(alloc),
             left: askers,
         })
     }
 
-    /// The root monitor alone again. It takes no memory.
+    /// The root monitor alone again, and the clock at 0. It takes no memory.
     pub fn reset(&mut self, alloc: Global, askers: u32)
         ensures { self.new ≡ no_lists askers }
     {
         self.monitors.reset();
         self.groups = Groups::make(alloc);
         self.purposes = Items::make(alloc);
+        self.clock = Clock::make(alloc);
         self.left = askers;
     }
 }

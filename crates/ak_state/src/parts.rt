@@ -1,5 +1,6 @@
 //! The parts of the scheduler's state together.
 
+mod alarms;
 mod cycle;
 mod deferred;
 mod effect;

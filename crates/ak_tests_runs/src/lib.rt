@@ -6,6 +6,8 @@ mod commands;
 #[cfg(test)]
 mod crews;
 #[cfg(test)]
+mod cycles;
+#[cfg(test)]
 mod errors;
 #[cfg(test)]
 mod hubs;

@@ -3,11 +3,13 @@
 ghost use Rattle.std.specs.Prelude.{◌≡◌, None, OnOk, OnErr, false, true, not};
 ghost use Rattle.ak_cells.specs.Names.{name_in};
 ghost use Rattle.std.specs.Option.{option_map};
-ghost use Rattle.ak_rings.specs.Queues.{pick_of, has_pick};
+ghost use Rattle.ak_rings.specs.Queues.{pick_of, has_pick, has_no_job};
 ghost use Rattle.ak_machine.specs.Cycle.{cycle_begun, has_more, is_stuck, is_quiet, with_left};
 ghost use Rattle.ak_base.specs.Lists.{is_empty_list};
 ghost use Rattle.ak_machine.specs.Mapped.{job_mapped};
 ghost use Rattle.ak_state.specs.Seen.{doing, without_pick};
+ghost use Rattle.ak_state.specs.Fits.{FitsSome};
+ghost use Rattle.ak_state.specs.Alarms.{with_recount};
 
 use crate::parts::Parts;
 use ak_base::list::NoMemory;
@@ -32,11 +34,14 @@ impl Parts {
         self.queues.pick()
     }
 
-    /// Whether a job waits. No yield is pending and no alarm is due, as neither is built.
+    /// Whether a job waits, a yield is pending or an alarm is due.
     pub fn has_more(&self) -> bool
         ensures { result ≡ has_more self.now.plain }
     {
-        !self.queues.is_empty()
+        let jobs = !self.queues.is_empty();
+        let yields = self.lists.clock.any_yield();
+        let due = self.lists.clock.any_due();
+        jobs | yields | due
     }
 
     /// Whether a work is outstanding. None is, as works are not built.
@@ -72,15 +77,26 @@ impl Parts {
         self.lists.left == 0
     }
 
-    /// A cycle begins. No yield is pending and no alarm is due, as neither is built; so there is a job to pick then
-    /// exactly where something was left to do.
+    /// A cycle begins: the pending yields are filled, and then the alarms that are due. There is a job to pick then
+    /// exactly where something is left to do.
     pub fn begin_cycle(&mut self) -> Result<(), NoMemory>
+        requires fits { FitsSome self.old.plain }
         ensures begun { OnOk result (self.new ≡ doing cycle_begun self.old) }
-        ensures picks { OnOk result (has_pick self.new.plain.queues ≡ has_more self.old.plain) }
-        ensures err { OnErr result (self.new ≡ self.old) }
+        ensures picks { OnOk result (has_pick self.new.plain.queues ≡ has_more self.new.plain) }
     {
-        self.trace.push(Entry::Cycle)?;
-        self.queues.reset();
+        self.note(Entry::Cycle)?;
+        self.fill_yields()?;
+        self.fill_alarms()?;
+        self.recount();
         Ok(())
+    }
+
+    /// None of the cycle's jobs ran. There is a job to pick then exactly where one waits.
+    fn recount(&mut self)
+        ensures recount { self.new ≡ doing with_recount self.old }
+        ensures picks { has_pick self.new.plain.queues
+            ≡ not (has_no_job self.new.plain.queues) }
+    {
+        self.queues.reset();
     }
 }
