@@ -1,11 +1,12 @@
 -- Lines of a sound program: each statement finds what it needs, and what it leaves fits.
-use Rattle.std.proofs.Common.{◌≡◌, ℕ, ◌<◌, List, [], ◌∷◌, ◌++◌, length, subst, sym, ap, arith, Bool, true, false, cond}
-use Rattle.std.specs.Prelude.{pos, Option, Some, None}
+use Rattle.std.proofs.Common.{◌≡◌, ℕ, ◌<◌, List, [], ◌∷◌, ◌++◌, length, subst, sym, ap, arith, Bool, true, false, cond, append_assoc}
+use Rattle.std.specs.Prelude.{ℤ, ◌+ℤ◌, pos, Option, Some, None, Result, Ok, Err}
 use Rattle.std.specs.List.{AllByRecursion}
 use Rattle.std.proofs.lemmas.List.{append-nil}
+use Rattle.ak_base.specs.Numbers.{fits}
 use Rattle.ak_base.specs.declared.number.Ctx.{Ctx}
 use Rattle.ak_script.specs.declared.script.Kind.{Kind}
-use Rattle.ak_script.specs.declared.script.Kind.TheVariants.{Num, Ivar, Def, Mon}
+use Rattle.ak_script.specs.declared.script.Kind.TheVariants.{Num, Ivar, Def, Mon, Event}
 use Rattle.ak_frames.specs.declared.value.Value.{Value}
 use Rattle.ak_frames.specs.declared.value.Value.TheVariants as value
 use Rattle.ak_frames.specs.declared.frame.Ret.{Ret}
@@ -24,23 +25,27 @@ use Rattle.ak_machine.specs.declared.flow.Flow.{Flow}
 use Rattle.ak_machine.specs.declared.flow.Flow.TheVariants as flow
 use Rattle.ak_machine.specs.declared.held.Callback.{Callback}
 use Rattle.ak_machine.specs.declared.held.Handler.TheVariants.{OnError}
-use Rattle.ak_machine.specs.Alarms.{with_yield}
+use Rattle.ak_clock.specs.declared.alarm.TickRefused.{TickRefused}
+use Rattle.ak_clock.specs.declared.alarm.TickRefused.TheVariants.{Negative, Overflow}
+use Rattle.ak_clock.specs.Clock.{ticked}
+use Rattle.ak_machine.specs.Alarms.{with_yield, with_alarm, abort}
 use Rattle.ak_machine.specs.State.{State, next_ivar}
 use Rattle.ak_machine.specs.Number.{Computed, Gives, Overflows, DividesByZero, computed}
 use Rattle.ak_machine.specs.Deferred.{noting, plain_task, with_ivar, is_empty, fill, register}
 use Rattle.ak_machine.specs.Monitors.{with_monitor, detach, handled_by, next_error_awaited, in_monitor}
 use Rattle.ak_machine.specs.Groups.{try_begun}
 use Rattle.ak_machine.specs.Errors.{After, send}
-use Rattle.ak_machine.specs.Effect.{Effect, Goes, Raises, Returns, Ends, full_ivar, local, name_of, number_in, name_in, args_of, call_to_fresh, holds}
-use Rattle.ak_machine.specs.Statement.{effect_of, set_effect, sent_effect, line_effect}
+use Rattle.ak_machine.specs.Effect.{Effect, Goes, Raises, Returns, Ends, overflow, full_ivar, bound, result_bound, local, name_of, number_in, name_in, args_of, call_to_fresh, holds}
+use Rattle.ak_machine.specs.Statement.{effect_of, set_effect, sent_effect, tick_effect, line_effect}
 use Rattle.ak_exec.specs.Ready.{IsReady, IsTold}
 use Rattle.ak_exec.specs.Built.{IsBuiltStmt}
 use Rattle.ak_state.specs.Drawn.{Drawn, drawn}
 use Rattle.ak_state.specs.Fits.{ValueFits, ValsFit, kinds_of, RetFits, CallFits, Fits}
 use Rattle.ak_exec.specs.Typed.{kinds_after, AreTyped, IsReturned, EffectFits, IsUnderWay}
-use Rattle.ak_exec.proofs.Values.{ivar_at, def_at, mon_at, num_at, returned_at, call_bound, call_fits, value_call_fits, all_front, all_back, vals_push}
+use Rattle.ak_exec.proofs.Values.{ivar_at, def_at, mon_at, event_at, num_at, returned_at, call_bound, call_fits, value_call_fits, all_front, all_back, vals_push}
 use Rattle.ak_state.specs.Reads.{IsMonitor}
-use Rattle.ak_state.proofs.Alarms.{yield_grows}
+use Rattle.ak_state.specs.Alarms.{at_time}
+use Rattle.ak_state.proofs.Alarms.{yield_grows, alarm_grows, abort_grows, time_grows}
 use Rattle.ak_state.proofs.Fitting.{Grows, kept_grows, then_grows, vals_grow, ret_grows, noted_grows, enqueue_grows, fill_grows, register_grows, register_drawn, ivar_grows, drawn_one}
 use Rattle.ak_state.proofs.Monitors.{child_drawn, child_grows, detach_grows, handled_grows, awaited_grows}
 use Rattle.ak_state.proofs.Groups.{try_begun_grows}
@@ -69,6 +74,10 @@ ready program kinds prefix line (stmt.Sched proc args) s vals f h built = call_b
 ready program kinds prefix line (stmt.Low proc args) s vals f h built = call_bound program (drawn s) kinds vals proc 0 args f h.calls.0
 ready program kinds prefix line (stmt.Yield r) s vals f h built = tt
 ready program kinds prefix line (stmt.Never r) s vals f h built = tt
+ready program kinds prefix line (stmt.After r n) s vals f h built = num_at (drawn s) kinds vals n f h.uses
+ready program kinds prefix line (stmt.Event e r n) s vals f h built = num_at (drawn s) kinds vals n f h.uses
+ready program kinds prefix line (stmt.Abort e) s vals f h built = event_at (drawn s) kinds vals e f h.uses.0
+ready program kinds prefix line (stmt.Tick n) s vals f h built = num_at (drawn s) kinds vals n f h.uses
 ready program kinds prefix line (stmt.Monitor m) s vals f h built = tt
 ready program kinds prefix line (stmt.Within m proc args) s vals f h built =
     (mon_at (drawn s) kinds vals m f h.uses.0, call_bound program (drawn s) kinds vals proc 0 args f h.calls.0)
@@ -106,6 +115,22 @@ binds_fit : (program : List NumProc) (kinds : List Kind) (s s' : State) (vals : 
     → EffectFits program (drawn s) (kinds ++ kind ∷ []) (Goes s' (vals ++ v ∷ []))
 binds_fit program kinds s s' vals kind v f g p =
     (g.more, vals_push (drawn s') kinds vals kind v (vals_grow (drawn s) (drawn s') kinds vals g.more f) p, g.fits)
+
+-- a change that binds two
+binds_two : (program : List NumProc) (kinds : List Kind) (s s' : State) (vals : List Value) (kind kind' : Kind) (v v' : Value)
+    → ValsFit (drawn s) kinds vals → Grows program s s' → ValueFits (drawn s') kind v → ValueFits (drawn s') kind' v'
+    → EffectFits program (drawn s) (kinds ++ kind ∷ kind' ∷ []) (Goes s' ((vals ++ v ∷ []) ++ v' ∷ []))
+binds_two program kinds s s' vals kind kind' v v' f g p p' =
+    let one = vals_push (drawn s') kinds vals kind v (vals_grow (drawn s) (drawn s') kinds vals g.more f) p
+    in let two = vals_push (drawn s') (kinds ++ kind ∷ []) (vals ++ v ∷ []) kind' v' one p'
+    in (g.more, subst (λ ks. ValsFit (drawn s') ks ((vals ++ v ∷ []) ++ v' ∷ [])) (append_assoc kinds (kind ∷ []) (kind' ∷ [])) two, g.fits)
+
+-- a move of the clock
+tick_fits : (program : List NumProc) (kinds : List Kind) (answer : Result (Unit {0}) TickRefused) (time : ℤ) (s : State) (vals : List Value)
+    → ValsFit (drawn s) kinds vals → Fits program s → EffectFits program (drawn s) (kinds ++ []) (tick_effect answer time s vals)
+tick_fits program kinds (Ok u) time s vals f g = goes_fit program kinds s (at_time time s) vals f (time_grows program time s g)
+tick_fits program kinds (Err Negative) time s vals f g = tt
+tick_fits program kinds (Err Overflow) time s vals f g = tt
 
 set_fits : (program : List NumProc) (kinds : List Kind) (c : Computed) (s : State) (vals : List Value) → ValsFit (drawn s) kinds vals
     → Fits program s → EffectFits program (drawn s) (kinds ++ Num ∷ []) (set_effect c s vals)
@@ -164,6 +189,21 @@ effect_fits program ctx kinds prefix line (stmt.Yield r) s vals mon f h built g 
     binds_fit program kinds s (with_yield s) vals Def (value.Def (length s.cells.ivars)) f (yield_grows program s g) (omega (arith, drawn_one s))
 effect_fits program ctx kinds prefix line (stmt.Never r) s vals mon f h built g =
     binds_fit program kinds s (with_ivar s) vals Def (value.Def (length s.cells.ivars)) f (ivar_grows program s g) (omega (arith, drawn_one s))
+effect_fits program ctx kinds prefix line (stmt.After r n) s vals mon f h built g =
+    let time : ℤ = s.clock.time +ℤ number_in vals n
+    in either_fits program (drawn s) (kinds ++ Def ∷ []) (fits time) (Goes (with_alarm time s) (result_bound s vals)) (Raises overflow)
+    (binds_fit program kinds s (with_alarm time s) vals Def (value.Def (next_ivar s)) f (alarm_grows program time s g) (omega (arith, drawn_one s))) tt
+effect_fits program ctx kinds prefix line (stmt.Event e r n) s vals mon f h built g =
+    let time : ℤ = s.clock.time +ℤ number_in vals n
+    in either_fits program (drawn s) (kinds ++ Event ∷ Def ∷ []) (fits time)
+    (Goes (with_alarm time s) (result_bound s (bound vals (value.Event s.clock.next)))) (Raises overflow)
+    (binds_two program kinds s (with_alarm time s) vals Event Def (value.Event s.clock.next) (value.Def (next_ivar s)) f
+    (alarm_grows program time s g) tt (omega (arith, drawn_one s))) tt
+effect_fits program ctx kinds prefix line (stmt.Abort e) s vals mon f h built g =
+    goes_fit program kinds s (abort (name_in vals e) s) vals f (abort_grows program (name_in vals e) s g)
+effect_fits program ctx kinds prefix line (stmt.Tick n) s vals mon f h built g =
+    let time : ℤ = s.clock.time +ℤ number_in vals n
+    in tick_fits program kinds (ticked (number_in vals n) time) time s vals f g
 effect_fits program ctx kinds prefix line (stmt.Fill i a) s vals mon f h built g =
     either_fits program (drawn s) (kinds ++ []) (is_empty (name_in vals i) s) (Goes (fill (name_in vals i) (number_in vals a) s) vals)
     (Raises full_ivar)

@@ -3,7 +3,7 @@ use Rattle.std.proofs.Common.{◌≡◌, ◌⊎◌, inl, inr, ℕ, zero, suc, �
 use Rattle.std.specs.Prelude.{pos, Option, Some, None, All, MatchOption}
 use Rattle.std.specs.List.{AllByRecursion, AllZip, Any as AnyOf, slice_get}
 use Rattle.ak_script.specs.declared.script.Kind.{Kind}
-use Rattle.ak_script.specs.declared.script.Kind.TheVariants.{Num, Ivar, Def, Mon}
+use Rattle.ak_script.specs.declared.script.Kind.TheVariants.{Num, Ivar, Def, Mon, Event}
 use Rattle.ak_script.specs.Kinds.{Serves}
 use Rattle.ak_frames.specs.declared.value.Value.{Value}
 use Rattle.ak_frames.specs.declared.value.Value.TheVariants as value
@@ -13,7 +13,7 @@ use Rattle.ak_program.specs.declared.statement.NumAtom.{NumAtom}
 use Rattle.ak_program.specs.declared.statement.NumAtom.TheVariants.{Literal, Local}
 use Rattle.ak_program.specs.Programs.{local as used, number, returned, IsKnown, IsPassed, Takes, IsCallable}
 use Rattle.ak_machine.specs.Effect.{local, value_of, args_of}
-use Rattle.ak_state.specs.Reads.{IsNum, IsNumAt, IsDeferred, IsMonitor, IsBound, AreBound}
+use Rattle.ak_state.specs.Reads.{IsNum, IsNumAt, IsDeferred, IsMonitor, IsEvent, IsEventAt, IsBound, AreBound}
 use Rattle.ak_state.specs.Drawn.{Drawn}
 use Rattle.ak_state.specs.Fits.{ValueFits, ValsFit, kinds_of, CallFits}
 use Rattle.ak_exec.specs.Typed.{IsReturned}
@@ -83,6 +83,14 @@ mon_value n v f = absurd f
 pub mon_at : (n : Drawn) (kinds : List Kind) (vals : List Value) (k : ℕ) → ValsFit n kinds vals → IsKnown kinds (used k Mon)
     → IsMonitor n.monitors (local vals k)
 mon_at n kinds vals k f h = mon_value n (local vals k) (local_fits n kinds vals k Mon f h).1
+
+event_value : (n : Drawn) (v : Value) → ValueFits n Event v → IsEvent v
+event_value n (value.Event e) f = tt
+event_value n v f = absurd f
+
+pub event_at : (n : Drawn) (kinds : List Kind) (vals : List Value) (k : ℕ) → ValsFit n kinds vals → IsKnown kinds (used k Event)
+    → IsEventAt vals k
+event_at n kinds vals k f h = let p = local_fits n kinds vals k Event f h in (p.0, event_value n (local vals k) p.1)
 
 -- ---- atoms
 pub all_front : {A : Type 0} (P : A → Type 0) (xs ys : List A) → AllByRecursion P (xs ++ ys) → AllByRecursion P xs

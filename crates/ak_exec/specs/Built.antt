@@ -6,7 +6,7 @@ use Rattle.ak_program.specs.declared.program.NumProc.{NumProc}
 use Rattle.ak_program.specs.declared.statement.NumStmt.{NumStmt}
 use Rattle.ak_program.specs.declared.statement.NumStmt.TheVariants as stmt
 
--- numbers, ivars, handlers, calls, yields, monitors and errors; not yet groups, alarms, throttles, pipes and works
+-- numbers, ivars, handlers, calls, yields, alarms, monitors and errors; not yet groups, throttles, pipes and works
 abbrev pub IsBuiltStmt : NumStmt → Type 0
 IsBuiltStmt (stmt.Set x a op b) = Unit {0}
 IsBuiltStmt (stmt.Print a) = Unit {0}
@@ -19,6 +19,10 @@ IsBuiltStmt (stmt.Sched proc args) = Unit {0}
 IsBuiltStmt (stmt.Low proc args) = Unit {0}
 IsBuiltStmt (stmt.Yield r) = Unit {0}
 IsBuiltStmt (stmt.Never r) = Unit {0}
+IsBuiltStmt (stmt.After r n) = Unit {0}
+IsBuiltStmt (stmt.Event e r n) = Unit {0}
+IsBuiltStmt (stmt.Abort e) = Unit {0}
+IsBuiltStmt (stmt.Tick n) = Unit {0}
 IsBuiltStmt (stmt.Monitor m) = Unit {0}
 IsBuiltStmt (stmt.Within m proc args) = Unit {0}
 IsBuiltStmt (stmt.Detach m) = Unit {0}

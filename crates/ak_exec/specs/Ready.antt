@@ -6,7 +6,7 @@ use Rattle.ak_program.specs.declared.program.NumPrefix.TheVariants.{If, Unless}
 use Rattle.ak_program.specs.declared.statement.NumStmt.{NumStmt}
 use Rattle.ak_program.specs.declared.statement.NumStmt.TheVariants as stmt
 use Rattle.ak_machine.specs.State.{State}
-use Rattle.ak_state.specs.Reads.{IsNumAt, IsDeferredAt, IsMonitorAt, IsBound, AreBound}
+use Rattle.ak_state.specs.Reads.{IsNumAt, IsDeferredAt, IsMonitorAt, IsEventAt, IsBound, AreBound}
 
 -- the number of a prefix
 abbrev pub IsTold : List Value → Option NumPrefix → Type 0
@@ -27,6 +27,10 @@ IsReady s vals (stmt.Sched proc args) = AreBound vals args
 IsReady s vals (stmt.Low proc args) = AreBound vals args
 IsReady s vals (stmt.Yield r) = Unit {0}
 IsReady s vals (stmt.Never r) = Unit {0}
+IsReady s vals (stmt.After r n) = IsNumAt vals n
+IsReady s vals (stmt.Event e r n) = IsNumAt vals n
+IsReady s vals (stmt.Abort e) = IsEventAt vals e
+IsReady s vals (stmt.Tick n) = IsNumAt vals n
 IsReady s vals (stmt.Monitor m) = Unit {0}
 IsReady s vals (stmt.Within m proc args) = IsMonitorAt s vals m × AreBound vals args
 IsReady s vals (stmt.Detach m) = IsMonitorAt s vals m

@@ -48,6 +48,10 @@ fn is_built(stmt: &NumStmt) -> bool
             | NumStmt::Low { .. }
             | NumStmt::Yield { .. }
             | NumStmt::Never { .. }
+            | NumStmt::After { .. }
+            | NumStmt::Event { .. }
+            | NumStmt::Abort { .. }
+            | NumStmt::Tick { .. }
             | NumStmt::Monitor { .. }
             | NumStmt::Within { .. }
             | NumStmt::Detach { .. }

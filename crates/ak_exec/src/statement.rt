@@ -6,7 +6,7 @@ ghost use Rattle.ak_state.specs.Reads.{named};
 ghost use Rattle.ak_exec.specs.Ready.{IsReady};
 ghost use Rattle.ak_exec.specs.Steps.{Does};
 
-use crate::statements::alarms::yield_cycle;
+use crate::statements::alarms::{abort, after, event, tick, yield_cycle};
 use crate::statements::deferred::{bind, fill, ivar, never, offer, upon};
 use crate::statements::groups::try_body;
 use crate::statements::jobs::{call, raise, ret};
@@ -56,6 +56,10 @@ pub fn run_statement(
         NumStmt::Low { proc, args } => { call(parts, Ctx { low: true, ..ctx }, vals, *proc, args) }
         NumStmt::Yield { r } => yield_cycle(parts, ctx, vals, *r),
         NumStmt::Never { r } => never(parts, ctx, vals, *r),
+        NumStmt::After { r, n } => after(parts, ctx, vals, *r, *n),
+        NumStmt::Event { e, r, n } => event(parts, ctx, vals, *e, *r, *n),
+        NumStmt::Abort { e } => abort(parts, ctx, vals, *e),
+        NumStmt::Tick { n } => tick(parts, ctx, vals, *n),
         NumStmt::Monitor { m } => monitor(parts, ctx, vals, *m),
         NumStmt::Within { m, proc, args } => within(parts, ctx, vals, *m, *proc, args),
         NumStmt::Detach { m } => detach(parts, ctx, vals, *m),

@@ -1,6 +1,6 @@
 -- Yields and alarms, taken one at a time as a cycle begins.
-use Rattle.std.proofs.Common.{◌≡◌, ℕ, ℤ, suc, ◌+◌, ◌<◌, List, [], ◌∷◌, ◌++◌, length, map, fold, refl, ap, sym, ◌∙◌, subst, Bool, true, false, not, ◌||◌, cond, arith}
-use Rattle.std.specs.Prelude.{pos, Option, Some, None, filter, ◌↔◌, int_lt}
+use Rattle.std.proofs.Common.{◌≡◌, ℕ, ℤ, suc, ◌+◌, ◌<◌, ◌≤◌, List, [], ◌∷◌, ◌++◌, length, map, fold, refl, ap, sym, ◌∙◌, subst, Bool, true, false, not, ◌||◌, cond, arith}
+use Rattle.std.specs.Prelude.{pos, Option, Some, None, filter, find, ◌↔◌, int_lt}
 use Rattle.std.specs.Option.{option_map}
 use Rattle.std.specs.List.{AllByRecursion}
 use Rattle.std.proofs.lemmas.List.{map-append}
@@ -21,22 +21,22 @@ use Rattle.ak_trace.specs.declared.entry.Entry.{Entry}
 use Rattle.ak_trace.specs.declared.entry.Entry.TheVariants as entry
 use Rattle.ak_clock.specs.declared.alarm.Alarm.{Alarm}
 use Rattle.ak_clock.specs.Clock as clock
-use Rattle.ak_clock.specs.Clock.{Clock, ivar_of, due_alarms, due_taken, is_due, is_early, is_other_alarm, insert_alarm, inserted, by_time, without_this, without_due, without_yields, has_due, has_yield, yield_taken}
+use Rattle.ak_clock.specs.Clock.{Clock, ivar_of, alarm_of, is_alarm, due_alarms, due_taken, is_due, is_early, is_other_alarm, insert_alarm, inserted, by_time, without_this, without_due, without_yields, has_due, has_yield, yield_taken}
 use Rattle.ak_clock.specs.Order.{number_of}
 use Rattle.ak_clock.specs.Calls.{DueGives, due_ivars}
 use Rattle.ak_program.specs.declared.program.NumProc.{NumProc}
 use Rattle.ak_machine.specs.State.{State}
 use Rattle.ak_machine.specs.Deferred.{noting, with_ivar, woken_by, number_at, fill_at, fill, filled_with}
 use Rattle.ak_machine.specs.Mapped.{alarm_mapped, clock_mapped, state_named}
-use Rattle.ak_machine.specs.Alarms.{with_yield, alarm_filled, yields_filled, alarms_filled}
+use Rattle.ak_machine.specs.Alarms.{with_yield, with_alarm, aborted_at, abort, alarm_filled, yields_filled, alarms_filled}
 use Rattle.ak_machine.specs.Cycle.{cycle_begun, has_more}
 use Rattle.ak_state.specs.Seen.{seen, doing, raw_state}
 use Rattle.ak_state.specs.Drawn.{drawn}
-use Rattle.ak_state.specs.Fits.{ClockFits, Fits, FitsSome}
-use Rattle.ak_state.specs.Alarms.{with_clock, awaiting_cycle, first_yield, without_yield, first_due, without_alarm, with_recount}
+use Rattle.ak_state.specs.Fits.{ClockFits, AlarmFits, Fits, FitsSome}
+use Rattle.ak_state.specs.Alarms.{with_clock, awaiting_cycle, first_yield, without_yield, first_due, without_alarm, with_recount, with_alarm_for, pending, without_event, at_time}
 use Rattle.ak_state.proofs.Stands.{seen_as}
 use Rattle.ak_state.proofs.Picks.{no_job_mapped}
-use Rattle.ak_state.proofs.Fitting.{Grows, then_grows, fill_grows, ivar_grows, drawn_one, clock_set_grows, fewer_alarms, rest_all}
+use Rattle.ak_state.proofs.Fitting.{Grows, kept_grows, then_grows, fill_grows, ivar_grows, drawn_one, clock_set_grows, fewer_alarms, rest_all}
 
 -- ---- fills leave the clock, and what is kept of the jobs that ran
 woken_clock : (v : ℤ) (c : Clock) (gs : List (Registration Frame)) (s : State)
@@ -344,6 +344,111 @@ pub seen_due : (cells : NamedCells Frame) (q : Queues Task) (t : List Entry) (li
     → seen cells q t (record lists { clock = due_taken lists.clock }) ≡ doing without_alarm (seen cells q t lists)
 seen_due cells q t lists =
     seen_clock cells q t lists (due_taken lists.clock) _ (taken_mapped (name_in (trimmed cells.names)) lists.clock)
+
+-- ---- alarms that are set and aborted
+found_by : (f : ℕ → ℕ) (b : Bool) (a : Alarm) (o o' : Option Alarm) → option_map (alarm_mapped f) o ≡ o'
+    → option_map (alarm_mapped f) (cond b (Some a) o) ≡ cond b (Some (alarm_mapped f a)) o'
+found_by f true a o o' e = refl
+found_by f false a o o' e = e
+
+found_mapped : (f : ℕ → ℕ) (e : ℕ) (alarms : List Alarm)
+    → option_map (alarm_mapped f) (find (is_alarm e) alarms) ≡ find (is_alarm e) (map (alarm_mapped f) alarms)
+found_mapped f e [] = refl
+found_mapped f e (a ∷ alarms) =
+    found_by f (is_alarm e a) a (find (is_alarm e) alarms) (find (is_alarm e) (map (alarm_mapped f) alarms)) (found_mapped f e alarms)
+
+ivar_mapped : (f : ℕ → ℕ) (o : Option Alarm) → option_map f (ivar_of o) ≡ ivar_of (option_map (alarm_mapped f) o)
+ivar_mapped f None = refl
+ivar_mapped f (Some a) = refl
+
+pub pending_mapped : (f : ℕ → ℕ) (e : ℕ) (c : Clock) → option_map f (ivar_of (alarm_of e c)) ≡ ivar_of (alarm_of e (clock_mapped f c))
+pending_mapped f e c = ivar_mapped f (alarm_of e c) ∙ ap ivar_of (found_mapped f e c.alarms)
+
+this_mapped : (f : ℕ → ℕ) (o : Option Alarm) (c : Clock)
+    → clock_mapped f (without_this o c) ≡ without_this (option_map (alarm_mapped f) o) (clock_mapped f c)
+this_mapped f None c = refl
+this_mapped f (Some a) c = ap (λ xs. record (clock_mapped f c) { alarms = xs }) (pick_mapped f (is_other_alarm a.no) (λ b. refl) c.alarms)
+
+pub seen_aborted : (cells : NamedCells Frame) (q : Queues Task) (t : List Entry) (lists : State) (e : ℕ)
+    → seen cells q t (record lists { clock = without_this (alarm_of e lists.clock) lists.clock }) ≡ doing (without_event e) (seen cells q t lists)
+seen_aborted cells q t lists e =
+    let f : ℕ → ℕ = name_in (trimmed cells.names)
+    in seen_clock cells q t lists (without_this (alarm_of e lists.clock) lists.clock) _
+    (this_mapped f (alarm_of e lists.clock) lists.clock
+    ∙ ap (λ o. without_this o (clock_mapped f lists.clock)) (found_mapped f e lists.clock.alarms))
+
+pub seen_alarm : (cells : NamedCells Frame) (q : Queues Task) (t : List Entry) (lists : State) (time : ℤ) (i : ℕ)
+    → seen cells q t (record lists { clock = clock.with_alarm time i lists.clock })
+    ≡ doing (with_alarm_for time (name_in (trimmed cells.names) i)) (seen cells q t lists)
+seen_alarm cells q t lists time i =
+    let f : ℕ → ℕ = name_in (trimmed cells.names)
+    in seen_clock cells q t lists (clock.with_alarm time i lists.clock) _
+    (ap (λ xs. record (clock_mapped f lists.clock) { alarms = xs; next = lists.clock.next + 1 })
+    (map-append (alarm_mapped f) lists.clock.alarms (record { no = lists.clock.next; time = time; ivar = i } ∷ [])))
+
+abort_by : (o : Option Alarm) (s : State) (i : ℕ) → ivar_of o ≡ Some i → fill i (pos 1) (with_clock (without_this o s.clock) s) ≡ aborted_at o s
+abort_by None s i h = absurd (cc)
+abort_by (Some a) s i h =
+    let same : a.ivar ≡ i = cc in ap (λ k. fill k (pos 1) (with_clock (clock.without_alarm a.no s.clock) s)) (sym same)
+
+-- a pending alarm is aborted, and one that is not pending stays as it is
+pub abort_filled : (e : ℕ) (s : State) (i : ℕ) → pending e s ≡ Some i → fill i (pos 1) (without_event e s) ≡ abort e s
+abort_filled e s i h = abort_by (alarm_of e s.clock) s i h
+
+none_aborted : (o : Option Alarm) (s : State) → ivar_of o ≡ None → with_clock (without_this o s.clock) s ≡ aborted_at o s
+none_aborted None s h = refl
+none_aborted (Some a) s h = absurd (cc)
+
+pub abort_none : (e : ℕ) (s : State) → pending e s ≡ None → without_event e s ≡ abort e s
+abort_none e s h = none_aborted (alarm_of e s.clock) s h
+
+found_drawn : (n : ℕ) (p : Alarm → Bool) (alarms : List Alarm) (i : ℕ) → AllByRecursion (λ (a : Alarm). a.ivar < n) alarms
+    → ivar_of (find p alarms) ≡ Some i → i < n
+found_drawn n p [] i h e = absurd (cc)
+found_drawn n p (a ∷ alarms) i h e = by (p a) e (found_drawn n p alarms i h.1)
+  where
+    by : (b : Bool) → ivar_of (cond b (Some a) (find p alarms)) ≡ Some i → (ivar_of (find p alarms) ≡ Some i → i < n) → i < n
+    by true q next = let same : a.ivar ≡ i = cc in subst (λ k. k < n) same h.0
+    by false q next = next q
+
+pub pending_drawn : (e : ℕ) (s : State) (i : ℕ) → FitsSome s → pending e s ≡ Some i → i < length s.cells.ivars
+pending_drawn e s i f h = found_drawn (length s.cells.ivars) (is_alarm e) s.clock.alarms i f.fits.clock.alarms h
+
+-- ---- what fits
+numbered_push : (low high : ℕ) (alarms : List Alarm) (a : Alarm) → low ≤ a.no → high ≡ a.no → AreNumbered number_of low high alarms
+    → AreNumbered number_of low (a.no + 1) (alarms ++ a ∷ [])
+numbered_push low high [] a h e n = (h, omega arith, tt)
+numbered_push low high (b ∷ alarms) a h e n =
+    (n.0, omega (arith, n.1, e), numbered_push (b.no + 1) high alarms a (omega (arith, n.1, e)) e n.2)
+
+pub alarm_grows : (program : List NumProc) (time : ℤ) (s : State) → Fits program s → Grows program s (with_alarm time s)
+alarm_grows program time s f =
+    let one = ivar_grows program s f
+    in let t : State = with_ivar s
+    in let a : Alarm = record { no = s.clock.next; time = time; ivar = length s.cells.ivars }
+    in then_grows program s t (with_alarm time s) one
+    (clock_set_grows program (clock.with_alarm time (length s.cells.ivars) s.clock) t one.fits
+    (record {
+      yields = one.fits.clock.yields;
+      alarms = all_push (AlarmFits (drawn t)) s.clock.alarms a one.fits.clock.alarms (omega (arith, drawn_one s));
+      numbered = numbered_push 0 s.clock.next s.clock.alarms a (omega arith) refl f.clock.numbered;
+      few = omega (arith, drawn_one s, f.clock.few);
+    }))
+
+aborted_grows : (program : List NumProc) (o : Option Alarm) (s : State) → Fits program s → Grows program s (aborted_at o s)
+aborted_grows program None s f = kept_grows program s f
+aborted_grows program (Some a) s f =
+    let c : Clock = clock.without_alarm a.no s.clock
+    in let one = clock_set_grows program c s f (fewer_alarms (drawn s) (is_other_alarm a.no) s.clock f.clock)
+    in then_grows program s (with_clock c s) (aborted_at (Some a) s) one (fill_grows program a.ivar (pos 1) (with_clock c s) one.fits)
+
+pub abort_grows : (program : List NumProc) (e : ℕ) (s : State) → Fits program s → Grows program s (abort e s)
+abort_grows program e s f = aborted_grows program (alarm_of e s.clock) s f
+
+pub time_grows : (program : List NumProc) (time : ℤ) (s : State) → Fits program s → Grows program s (at_time time s)
+time_grows program time s f =
+    clock_set_grows program (clock.set_to time s.clock) s f
+    (record { yields = f.clock.yields; alarms = f.clock.alarms; numbered = f.clock.numbered; few = f.clock.few })
 
 -- ---- what is left to do
 empty_mapped : {A B : Type 0} (f : A → B) (xs : List A) → is_empty_list xs ≡ is_empty_list (map f xs)

@@ -80,10 +80,12 @@ value_grows n n' Ivar (value.Ivar i) h f = omega (arith, h.ivars, f)
 value_grows n n' Def (value.Ivar i) h f = omega (arith, h.ivars, f)
 value_grows n n' Def (value.Def i) h f = omega (arith, h.ivars, f)
 value_grows n n' Mon (value.Mon m) h f = omega (arith, h.monitors, f)
+value_grows n n' Event (value.Event e) h f = tt
 value_grows n n' Num v h f = absurd f
 value_grows n n' Ivar v h f = absurd f
 value_grows n n' Def v h f = absurd f
 value_grows n n' Mon v h f = absurd f
+value_grows n n' Event v h f = absurd f
 value_grows n n' kind v h f = absurd f
 
 pub vals_grow : (n n' : Drawn) (kinds : List Kind) (vals : List Value) → More n n' → ValsFit n kinds vals → ValsFit n' kinds vals
@@ -162,10 +164,12 @@ value_mapped_fits g n h Ivar (value.Ivar i) f = h i f
 value_mapped_fits g n h Def (value.Ivar i) f = h i f
 value_mapped_fits g n h Def (value.Def i) f = h i f
 value_mapped_fits g n h Mon (value.Mon m) f = f
+value_mapped_fits g n h Event (value.Event e) f = tt
 value_mapped_fits g n h Num v f = absurd f
 value_mapped_fits g n h Ivar v f = absurd f
 value_mapped_fits g n h Def v f = absurd f
 value_mapped_fits g n h Mon v f = absurd f
+value_mapped_fits g n h Event v f = absurd f
 value_mapped_fits g n h kind v f = absurd f
 
 vals_mapped_fit : (g : ℕ → ℕ) (n : Drawn) → ((i : ℕ) → i < n.ivars → g i < n.ivars) → (kinds : List Kind) (vals : List Value) → ValsFit n kinds vals

@@ -12,7 +12,7 @@ use Rattle.ak_frames.specs.declared.frame.Frame.{Frame}
 use Rattle.ak_frames.specs.declared.frame.Frame.TheVariants.{Call, OnValue, TryDone}
 use Rattle.ak_frames.specs.declared.frame.Task.{Task}
 use Rattle.ak_script.specs.declared.script.Kind.{Kind}
-use Rattle.ak_script.specs.declared.script.Kind.TheVariants.{Num, Ivar, Def, Mon}
+use Rattle.ak_script.specs.declared.script.Kind.TheVariants.{Num, Ivar, Def, Mon, Event}
 use Rattle.ak_program.specs.declared.program.NumParam.{NumParam}
 use Rattle.ak_program.specs.declared.program.NumProc.{NumProc}
 use Rattle.ak_monitor.specs.Monitors.{Monitor}
@@ -35,6 +35,7 @@ ValueFits n Ivar (value.Ivar i) = i < n.ivars
 ValueFits n Def (value.Ivar i) = i < n.ivars
 ValueFits n Def (value.Def i) = i < n.ivars
 ValueFits n Mon (value.Mon m) = m < n.monitors
+ValueFits n Event (value.Event e) = Unit {0}
 ValueFits n other v = ⊥
 
 -- each value is of its kind

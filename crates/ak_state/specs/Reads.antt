@@ -85,6 +85,17 @@ IsMon (Thr t) = ⊥
 IsMon (Event e) = ⊥
 IsMon (Helper h) = ⊥
 
+-- an alarm
+abbrev pub IsEvent : Value → Type 0
+IsEvent (Num z) = ⊥
+IsEvent (Ivar i) = ⊥
+IsEvent (Def i) = ⊥
+IsEvent (Mon m) = ⊥
+IsEvent (Pipe p) = ⊥
+IsEvent (Thr t) = ⊥
+IsEvent (Event e) = Unit {0}
+IsEvent (Helper h) = ⊥
+
 -- a number of 64 bits, or one of the first n locals
 abbrev pub IsBound : ℕ → NumAtom → Type 0
 IsBound n (Literal z) = Unit {0}
@@ -100,6 +111,10 @@ IsDeferredAt s vals k = IsDeferred (length s.cells.ivars) (local vals k)
 -- a monitor that a local names
 abbrev pub IsMonitorAt : State → List Value → ℕ → Type 0
 IsMonitorAt s vals k = IsMonitor (length s.monitors) (local vals k)
+
+-- an alarm that a local names
+abbrev pub IsEventAt : List Value → ℕ → Type 0
+IsEventAt vals k = (k < length vals) × IsEvent (local vals k)
 
 abbrev pub AreBound : List Value → List NumAtom → Type 0
 AreBound vals args = All (IsBound (length vals)) args

@@ -2,10 +2,10 @@
 
 ghost use Rattle.std.specs.Prelude.{◌≡◌, ◌∷◌, ◌<◌, length, IfOk};
 ghost use Rattle.ak_machine.specs.Effect.{local, number_of, name_of};
-ghost use Rattle.ak_state.specs.Reads.{IsNum, IsName, IsMon};
+ghost use Rattle.ak_state.specs.Reads.{IsNum, IsName, IsMon, IsEvent};
 
 use ak_base::list::{Items, NoMemory};
-use ak_base::number::{IvarNo, MonNo, Num};
+use ak_base::number::{EventNo, IvarNo, MonNo, Num};
 use ak_frames::value::{Vals, Value};
 use std::alloc::Global;
 
@@ -50,6 +50,17 @@ pub fn mon_of(value: Value) -> MonNo
 {
     match value {
         Value::Mon(mon) => mon,
+        _ => unreachable!(),
+    }
+}
+
+/// The alarm that a value names.
+pub fn event_of(value: Value) -> EventNo
+    requires { IsEvent value }
+    ensures { result ≡ name_of value }
+{
+    match value {
+        Value::Event(e) => e,
         _ => unreachable!(),
     }
 }

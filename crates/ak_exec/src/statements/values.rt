@@ -15,7 +15,7 @@ use ak_state::parts::Parts;
 use ak_trace::entry::Entry;
 
 /// The error of a number beyond 64 bits.
-const OVERFLOW: Num = -1;
+pub const OVERFLOW: Num = -1;
 
 /// The error of a division by zero.
 const ZERO_DIVISOR: Num = -2;

@@ -1,6 +1,6 @@
 //! Ivars, and the jobs that wait: to enqueue, to draw, to register, to fill, to connect.
 
-ghost use Rattle.std.specs.Prelude.{◌≡◌, ◌<◌, [], ◌∷◌, ◌++◌, length, fold, None, OnOk, IfOk, false, true};
+ghost use Rattle.std.specs.Prelude.{◌≡◌, ◌<◌, ◌-◌, ◌^◌, [], ◌∷◌, ◌++◌, length, fold, None, OnOk, IfOk, false, true};
 ghost use Rattle.ak_cells.specs.Names.{name_in};
 ghost use Rattle.ak_machine.specs.State.{State};
 ghost use Rattle.ak_machine.specs.Deferred.{enqueue, with_ivar, number_at as full_with, is_empty, fill, register, connect};
@@ -32,6 +32,7 @@ impl Parts {
         ensures number { IfOk result (λ i. i ≡ length self.old.plain.cells.ivars) }
         ensures fresh { OnOk result (self.new ≡ doing with_ivar self.old) }
         ensures own { IfOk result (λ i. name_in self.old.names i ≡ i) }
+        ensures few { OnOk result (length self.old.plain.cells.ivars < 2 ^ 32 - 1) }
     {
         self.cells.reserve(1, 0)?;
         Ok(self.cells.fresh())

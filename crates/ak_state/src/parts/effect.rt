@@ -4,12 +4,12 @@ ghost use Rattle.std.specs.Prelude.{◌≡◌, ◌<◌, length, IfOk};
 ghost use Rattle.ak_cells.specs.Names.{name_in};
 ghost use Rattle.ak_machine.specs.Mapped.{value_mapped, values_mapped};
 ghost use Rattle.ak_machine.specs.Effect.{value_of, number_in, name_in as name_at, args_of};
-ghost use Rattle.ak_state.specs.Reads.{named, IsNumAt, IsDeferredAt, IsMonitorAt, IsBound, AreBound};
+ghost use Rattle.ak_state.specs.Reads.{named, IsNumAt, IsDeferredAt, IsMonitorAt, IsEventAt, IsBound, AreBound};
 
-use crate::local::{ivar_of, local_at, mon_of, num_of};
+use crate::local::{event_of, ivar_of, local_at, mon_of, num_of};
 use crate::parts::Parts;
 use ak_base::list::{Items, NoMemory};
-use ak_base::number::{IvarNo, MonNo, Num};
+use ak_base::number::{EventNo, IvarNo, MonNo, Num};
 use ak_frames::value::{Vals, Value};
 use ak_program::statement::{NumArgs, NumAtom};
 
@@ -43,6 +43,14 @@ impl Parts {
         ensures drawn { result < length self.now.plain.monitors }
     {
         mon_of(local_at(vals, k))
+    }
+
+    /// The alarm that a local names.
+    pub fn event_at(&self, vals: &Vals, k: usize) -> EventNo
+        requires { IsEventAt (named self.now vals.now) k }
+        ensures { result ≡ name_at (named self.now vals.now) k }
+    {
+        event_of(local_at(vals, k))
     }
 
     /// The value of an atom.
