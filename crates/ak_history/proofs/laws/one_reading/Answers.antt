@@ -1,5 +1,9 @@
 use Rattle.ak_history.proofs.Readings.{one_history, one_bad_line, never_both, either}
+use Rattle.ak_history.proofs.Walks.{one_line}
 use Rattle.ak_history.proofs.laws.one_reading.Goals as goal
+
+pub returns-clause-line : goal.returns-clause-line
+returns-clause-line c = one_line
 
 pub returns-clause-history : goal.returns-clause-history
 returns-clause-history c = one_history
