@@ -45,7 +45,6 @@ by_fits program n (Some job) b s f = record {
   low = f.low;
   monitors = f.monitors;
   purposes = f.purposes;
-  paired = f.paired;
   clock = f.clock;
 }
 by_fits program n None (Some job) s f = record {
@@ -54,7 +53,6 @@ by_fits program n None (Some job) s f = record {
   low = rest_fits (JobFits program n) s.queues.low f.low;
   monitors = f.monitors;
   purposes = f.purposes;
-  paired = f.paired;
   clock = f.clock;
 }
 by_fits program n None None s f = record {
@@ -63,7 +61,6 @@ by_fits program n None None s f = record {
   low = f.low;
   monitors = f.monitors;
   purposes = f.purposes;
-  paired = f.paired;
   clock = f.clock;
 }
 

@@ -17,7 +17,7 @@ number_grows : (program : List NumProc) (ret : Ret) (z : ℤ) (s : State) → Re
     → Grows program s (number_returned ret z s)
 number_grows program Drop z s r f = kept_grows program s f
 number_grows program (To x) z s r f = fill_grows program x z s f
-number_grows program (TryBody g) z s r f = try_done_grows program g z s f r
+number_grows program (TryBody g) z s r f = try_done_grows program g z s f
 number_grows program ret z s r f = absurd r
 
 deferred_grows : (program : List NumProc) (ret : Ret) (i : ℕ) (s : State) → RetFits (drawn s) ret → Fits program s

@@ -86,7 +86,6 @@ emptied_whole program config picked ran s s' e h = record {
         low = tt;
         monitors = (record { next_errors = tt; actors = tt }, tt);
         purposes = tt;
-        paired = refl;
         clock = record { yields = tt; alarms = tt; numbered = tt; few = omega arith };
       });
   picked = tt;

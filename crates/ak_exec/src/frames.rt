@@ -1,20 +1,21 @@
 //! What the job of each kind of frame does.
 
-ghost use Rattle.std.specs.Prelude.{◌≡◌, ◌<◌, ◌∷◌, length, None, IfOk, OnOk};
-ghost use Rattle.ak_machine.specs.Job.{Over, run_frame as frame_run, value_or_zero};
-ghost use Rattle.ak_holders.specs.Returns.{FrameReturns};
+ghost use Rattle.std.specs.Prelude.{◌≡◌, ◌<◌, ◌∷◌, length, None, IfOk, IfSome, OnOk};
+ghost use Rattle.ak_machine.specs.Job.{Over, run_frame as frame_run, run_call_if as call_run, value_or_zero};
+ghost use Rattle.ak_holders.specs.Returns.{FrameReturns, CallReturns};
 ghost use Rattle.ak_exec.specs.Built.{AreBuilt};
 ghost use Rattle.ak_state.specs.Drawn.{drawn};
-ghost use Rattle.ak_state.specs.Fits.{Fits, FrameFits};
-ghost use Rattle.ak_state.specs.Reads.{frame_named};
+ghost use Rattle.ak_state.specs.Fits.{Fits, FrameFits, CallbackFits};
+ghost use Rattle.ak_state.specs.Reads.{frame_named, call_named};
 ghost use Rattle.ak_state.specs.Errors.{after_is, Ends};
 
 use crate::job::{Running, run_call};
 use ak_base::list::{Items, NoMemory};
 use ak_base::number::{Ctx, Num};
-use ak_frames::frame::{Frame, Task};
+use ak_frames::frame::{Frame, Ret, Task};
 use ak_frames::value::{Vals, Value};
 use ak_machine::flow::Flow;
+use ak_machine::held::Callback;
 use ak_program::program::Program;
 use ak_state::parts::Parts;
 
@@ -35,6 +36,33 @@ fn with_value(value: Option<Num>, vals: Vals) -> Result<Vals, NoMemory>
     let mut all = vals.into_vec();
     all.insert(0, Value::Num(number_of(value)))?;
     Ok(Items::from_vec(all))
+}
+
+/// A call that waited runs in this same job, where there is one.
+fn run_call_if(
+    program: &Program,
+    parts: &mut Parts,
+    ctx: Ctx,
+    call: Option<Callback>,
+) -> Result<Flow, NoMemory>
+    requires built { AreBuilt program.now.procs }
+    requires monitor { ctx.mon < length parts.old.plain.monitors }
+    requires call { IfSome (call_named parts.old call)
+        (CallbackFits program.now.procs (drawn parts.old.plain)) }
+    requires returns { CallReturns program.now.procs ctx (call_named parts.old call)
+        parts.old.plain }
+    requires fits { Fits program.now.procs parts.old.plain }
+    ensures fits { OnOk result (Fits program.now.procs parts.new.plain) }
+    ensures told { IfOk result (λ flow. Ends flow parts.new.plain.trace) }
+    ensures runs { IfOk result (λ flow.
+        call_run program.now.procs ctx (call_named parts.old call) parts.old.plain
+        ≡ Over (after_is flow parts.new.plain)) }
+{
+    let Some(Callback { proc, vals, to }) = call else {
+        return Ok(Flow::On);
+    };
+    let ret = Ret::To(to);
+    run_call(program, parts, Running { ctx, ret }, proc, vals)
 }
 
 /// A frame, with the number that woke it where it waited for one.
@@ -65,6 +93,14 @@ pub fn run_task(
         Frame::OnValue { proc, vals, ret } => {
             let all = with_value(value, vals)?;
             run_call(program, parts, Running { ctx, ret }, proc, all)
+        }
+        Frame::AllPart { group, part } => {
+            let call = parts.end_part(group, part, number_of(value))?;
+            run_call_if(program, parts, ctx, call)
+        }
+        Frame::ChoicePart { group } => {
+            let call = parts.end_choice(group)?;
+            run_call_if(program, parts, ctx, call)
         }
         Frame::TryDone { guard } => {
             parts.end_try(guard, number_of(value))?;

@@ -1,7 +1,7 @@
 -- Changes of ivars and jobs leave what fits.
 use Rattle.std.proofs.Common.{◌≡◌, ℕ, zero, suc, ◌+◌, ◌<◌, ◌≤◌, List, [], ◌∷◌, ◌++◌, length, map, refl, ap, subst, sym, ◌∙◌, arith, Bool, true, false, cond}
-use Rattle.std.specs.Prelude.{ℤ, pos, Option, Some, None, MatchOption, fold, filter, ◌==◌}
-use Rattle.std.specs.List.{AllByRecursion, slice_get}
+use Rattle.std.specs.Prelude.{ℤ, pos, Option, Some, None, MatchOption, fold, filter, slice_index_or, ◌==◌}
+use Rattle.std.specs.List.{AllByRecursion, AllZip, slice_get}
 use Rattle.std.proofs.lemmas.List.{length-append, length-map}
 use Rattle.std.proofs.Math.ListN.{length-set}
 use Rattle.ak_base.specs.declared.number.Ctx.{Ctx}
@@ -24,23 +24,24 @@ use Rattle.ak_frames.specs.declared.value.Value.TheVariants as value
 use Rattle.ak_frames.specs.declared.frame.Ret.{Ret}
 use Rattle.ak_frames.specs.declared.frame.Ret.TheVariants.{Drop, To, TryBody}
 use Rattle.ak_frames.specs.declared.frame.Frame.{Frame}
-use Rattle.ak_frames.specs.declared.frame.Frame.TheVariants.{Call, OnValue, TryDone}
+use Rattle.ak_frames.specs.declared.frame.Frame.TheVariants.{Call, OnValue, AllPart, ChoicePart, TryDone}
 use Rattle.ak_frames.specs.declared.frame.Task.{Task}
 use Rattle.ak_trace.specs.declared.entry.Entry.{Entry}
 use Rattle.ak_trace.specs.declared.entry.Entry.TheVariants as entry
 use Rattle.ak_program.specs.declared.program.NumProc.{NumProc}
 use Rattle.ak_monitor.specs.Monitors.{Monitor}
+use Rattle.ak_machine.specs.declared.held.Choosable.{Choosable}
 use Rattle.ak_machine.specs.declared.held.Handler.{Handler}
 use Rattle.ak_machine.specs.declared.held.Handler.TheVariants.{OnError, OfGuard}
 use Rattle.ak_machine.specs.declared.held.Purpose.{Purpose}
-use Rattle.ak_machine.specs.declared.held.Purpose.TheVariants.{ForGuard}
+use Rattle.ak_machine.specs.declared.held.Purpose.TheVariants.{ForAll, ForAny, ForChoice, ForGuard}
 use Rattle.ak_machine.specs.State.{State}
 use Rattle.ak_machine.specs.Alarms.{yields_filled, alarm_filled, alarms_filled}
 use Rattle.ak_machine.specs.Cycle.{cycle_begun}
 use Rattle.ak_machine.specs.Deferred.{noting, enqueue, woken_task, with_ivar, woken_by, number_at, fill_empty, fill_at, fill, filled_with, register_at, register, connect_at, connect}
-use Rattle.ak_machine.specs.Mapped.{value_mapped, values_mapped, ret_mapped, frame_mapped, job_mapped, registration_mapped, handler_mapped, handled_mapped, monitor_mapped, purpose_mapped, alarm_mapped, clock_mapped, state_renamed}
-use Rattle.ak_state.specs.Drawn.{Drawn, drawn, More}
-use Rattle.ak_state.specs.Fits.{ValueFits, ValsFit, kinds_of, RetFits, CallFits, ValueCallFits, FrameFits, HeldFits, JobFits, HandlerFits, ActFits, ActorFits, MonitorFits, PurposeFits, AlarmFits, ClockFits, StateFits, Fits}
+use Rattle.ak_machine.specs.Mapped.{value_mapped, values_mapped, ret_mapped, frame_mapped, job_mapped, registration_mapped, handler_mapped, handled_mapped, monitor_mapped, choosable_mapped, purpose_mapped, alarm_mapped, clock_mapped, state_renamed}
+use Rattle.ak_state.specs.Drawn.{Drawn, drawn, parts_of, More}
+use Rattle.ak_state.specs.Fits.{ValueFits, ValsFit, kinds_of, RetFits, CallFits, ValueCallFits, FrameFits, HeldFits, JobFits, HandlerFits, ActFits, ActorFits, MonitorFits, numbers, ChoosableFits, PurposeFits, AlarmFits, ClockFits, StateFits, Fits}
 
 -- ---- lists
 all_map : {A B : Type 0} (P : A → Type 0) (Q : B → Type 0) (f : A → B) (h : (x : A) → P x → Q (f x)) (xs : List A) → AllByRecursion P xs
@@ -65,13 +66,51 @@ all_get P [] k x h e = absurd (cc)
 all_get P (y ∷ ys) zero x h e = let same : y ≡ x = cc in subst P same h.0
 all_get P (y ∷ ys) (suc k) x h e = all_get P ys k x h.1 e
 
+-- ---- two lists, place by place
+zip_by : {A B : Type 0} (P Q : A → B → Type 0) (h : (x : A) (y : B) → P x y → Q x y) (xs : List A) (ys : List B) → AllZip P xs ys → AllZip Q xs ys
+zip_by P Q h [] [] p = tt
+zip_by P Q h (x ∷ xs) (y ∷ ys) p = (h x y p.0, zip_by P Q h xs ys p.1)
+zip_by P Q h [] (y ∷ ys) p = absurd p
+zip_by P Q h (x ∷ xs) [] p = absurd p
+
+zip_map : {A B : Type 0} (P : A → B → Type 0) (f : B → B) (h : (x : A) (y : B) → P x y → P x (f y)) (xs : List A) (ys : List B) → AllZip P xs ys
+    → AllZip P xs (map f ys)
+zip_map P f h [] [] p = tt
+zip_map P f h (x ∷ xs) (y ∷ ys) p = (h x y p.0, zip_map P f h xs ys p.1)
+zip_map P f h [] (y ∷ ys) p = absurd p
+zip_map P f h (x ∷ xs) [] p = absurd p
+
+pub zip_push : {A B : Type 0} (P : A → B → Type 0) (xs : List A) (ys : List B) (x : A) (y : B) → AllZip P xs ys → P x y
+    → AllZip P (xs ++ x ∷ []) (ys ++ y ∷ [])
+zip_push P [] [] x y p q = (q, tt)
+zip_push P (v ∷ xs) (w ∷ ys) x y p q = (p.0, zip_push P xs ys x y p.1 q)
+zip_push P [] (w ∷ ys) x y p q = absurd p
+zip_push P (v ∷ xs) [] x y p q = absurd p
+
+pub zip_at : {A B : Type 0} (P : A → B → Type 0) (xs : List A) (ys : List B) (k : ℕ) (d : A) (e : B) → k < length xs → AllZip P xs ys
+    → P (slice_index_or xs k d) (slice_index_or ys k e)
+zip_at P [] ys k d e h p = absurd (omega (arith, h))
+zip_at P (x ∷ xs) [] k d e h p = absurd p
+zip_at P (x ∷ xs) (y ∷ ys) zero d e h p = p.0
+zip_at P (x ∷ xs) (y ∷ ys) (suc k) d e h p = zip_at P xs ys k d e (omega (arith, h)) p.1
+
+pub zip_long : {A B : Type 0} (P : A → B → Type 0) (xs : List A) (ys : List B) → AllZip P xs ys → length ys ≡ length xs
+zip_long P [] [] p = refl
+zip_long P (x ∷ xs) (y ∷ ys) p = ap suc (zip_long P xs ys p.1)
+zip_long P [] (y ∷ ys) p = absurd p
+zip_long P (x ∷ xs) [] p = absurd p
+
 -- ---- as much is drawn, or more
 pub same_more : (n : Drawn) → More n n
-same_more n = record { ivars = omega arith; monitors = omega arith; groups = omega arith }
+same_more n = record { ivars = omega arith; monitors = omega arith; groups = omega arith; parts = λ g. omega arith }
 
 pub more_more : (n n' n'' : Drawn) → More n n' → More n' n'' → More n n''
-more_more n n' n'' h k =
-    record { ivars = omega (arith, h.ivars, k.ivars); monitors = omega (arith, h.monitors, k.monitors); groups = omega (arith, h.groups, k.groups) }
+more_more n n' n'' h k = record {
+  ivars = omega (arith, h.ivars, k.ivars);
+  monitors = omega (arith, h.monitors, k.monitors);
+  groups = omega (arith, h.groups, k.groups);
+  parts = λ g. omega (arith, h.parts g, k.parts g);
+}
 
 -- ---- what fits goes on fitting as more is drawn
 value_grows : (n n' : Drawn) (kind : Kind) (v : Value) → More n n' → ValueFits n kind v → ValueFits n' kind v
@@ -112,6 +151,8 @@ call_more program n n' h proc vals f = call_grows (slice_get program proc) n n' 
 frame_grows : (program : List NumProc) (n n' : Drawn) → More n n' → (frame : Frame) → FrameFits program n frame → FrameFits program n' frame
 frame_grows program n n' h (Call proc vals ret) f = (call_grows (slice_get program proc) n n' vals h f.0, ret_grows n n' ret h f.1)
 frame_grows program n n' h (OnValue proc vals ret) f = (call_grows (slice_get program proc) n n' (value.Num (pos 0) ∷ vals) h f.0, ret_grows n n' ret h f.1)
+frame_grows program n n' h (AllPart g k) f = omega (arith, h.parts g, f)
+frame_grows program n n' h (ChoicePart g) f = omega (arith, h.groups, f)
 frame_grows program n n' h (TryDone g) f = omega (arith, h.groups, f)
 frame_grows program n n' h frame f = absurd f
 
@@ -136,14 +177,31 @@ monitor_grows program n n' h m f = record {
   actors = all_by (ActorFits program n) (ActorFits program n') (actor_grows program n n' h) m.handlers f.actors;
 }
 
-purpose_grows : (program : List NumProc) (n n' : Drawn) → More n n' → (x : Purpose) → PurposeFits program n x → PurposeFits program n' x
-purpose_grows program n n' h (ForGuard ctx m mode c) f = record {
+choosable_grows : (program : List NumProc) (n n' : Drawn) → More n n' → (vals : List Value) (x : Choosable) → ChoosableFits program n vals x
+    → ChoosableFits program n' vals x
+choosable_grows program n n' h vals x f =
+    record { deferred = omega (arith, h.ivars, f.deferred); call = call_more program n n' h x.proc (value.Num (pos 0) ∷ vals) f.call }
+
+pub purpose_grows : (program : List NumProc) (n n' : Drawn) → More n n' → (parts : ℕ) (x : Purpose) → PurposeFits program n parts x
+    → PurposeFits program n' parts x
+purpose_grows program n n' h parts (ForAll c) f = record {
+  few = f.few;
+  call = call_more program n n' h c.proc (numbers parts ++ c.vals) f.call;
+  result = omega (arith, h.ivars, f.result);
+}
+purpose_grows program n n' h parts (ForAny ds to) f =
+    (all_by (λ i. i < n.ivars) (λ i. i < n'.ivars) (λ i p. below_more n.ivars n'.ivars i h.ivars p) ds f.0, omega (arith, h.ivars, f.1))
+purpose_grows program n n' h parts (ForChoice choices vals to) f = (
+  all_by (ChoosableFits program n vals) (ChoosableFits program n' vals)
+      (choosable_grows program n n' h vals) choices f.0,
+  omega (arith, h.ivars, f.1),
+)
+purpose_grows program n n' h parts (ForGuard ctx m mode c) f = record {
   context = omega (arith, h.monitors, f.context);
   monitor = omega (arith, h.monitors, f.monitor);
   catches = call_grows (slice_get program c.proc) n n' (value.Num (pos 0) ∷ c.vals) h f.catches;
   result = omega (arith, h.ivars, f.result);
 }
-purpose_grows program n n' h x f = absurd f
 
 alarm_grows : (n n' : Drawn) → More n n' → (a : Alarm) → AlarmFits n a → AlarmFits n' a
 alarm_grows n n' h a f = omega (arith, h.ivars, f)
@@ -196,6 +254,8 @@ frame_mapped_fits : (program : List NumProc) (g : ℕ → ℕ) (n : Drawn) → (
 frame_mapped_fits program g n h (Call proc vals ret) f = (call_mapped_fits (slice_get program proc) g n h vals f.0, ret_mapped_fits g n h ret f.1)
 frame_mapped_fits program g n h (OnValue proc vals ret) f =
     (call_mapped_fits (slice_get program proc) g n h (value.Num (pos 0) ∷ vals) f.0, ret_mapped_fits g n h ret f.1)
+frame_mapped_fits program g n h (AllPart x k) f = f
+frame_mapped_fits program g n h (ChoicePart x) f = f
 frame_mapped_fits program g n h (TryDone x) f = f
 frame_mapped_fits program g n h frame f = absurd f
 
@@ -218,15 +278,32 @@ monitor_fits_mapped program g n h m f = record {
       (λ x p. record { monitor = p.monitor; act = act_mapped program g n h x.1 p.act }) m.handlers f.actors;
 }
 
-purpose_fits_mapped : (program : List NumProc) (g : ℕ → ℕ) (n : Drawn) → ((i : ℕ) → i < n.ivars → g i < n.ivars) → (x : Purpose)
-    → PurposeFits program n x → PurposeFits program n (purpose_mapped g x)
-purpose_fits_mapped program g n h (ForGuard ctx m mode c) f = record {
+-- numbers in front of values are no names
+pub numbers_mapped : (g : ℕ → ℕ) (parts : ℕ) (vals : List Value) → values_mapped g (numbers parts ++ vals) ≡ numbers parts ++ values_mapped g vals
+numbers_mapped g zero vals = refl
+numbers_mapped g (suc parts) vals = ap (λ vs. value.Num (pos 0) ∷ vs) (numbers_mapped g parts vals)
+
+purpose_fits_mapped : (program : List NumProc) (g : ℕ → ℕ) (n : Drawn) → ((i : ℕ) → i < n.ivars → g i < n.ivars) → (parts : ℕ) (x : Purpose)
+    → PurposeFits program n parts x → PurposeFits program n parts (purpose_mapped g x)
+purpose_fits_mapped program g n h parts (ForAll c) f = record {
+  few = f.few;
+  call = subst (CallFits program n c.proc) (numbers_mapped g parts c.vals)
+      (call_mapped_fits (slice_get program c.proc) g n h (numbers parts ++ c.vals) f.call);
+  result = h c.to f.result;
+}
+purpose_fits_mapped program g n h parts (ForAny ds to) f = (all_map (λ i. i < n.ivars) (λ i. i < n.ivars) g h ds f.0, h to f.1)
+purpose_fits_mapped program g n h parts (ForChoice choices vals to) f = (
+  all_map (ChoosableFits program n vals) (ChoosableFits program n (values_mapped g vals)) (choosable_mapped g)
+      (λ x p. record { deferred = h x.deferred p.deferred; call = call_mapped_fits (slice_get program x.proc) g n h (value.Num (pos 0) ∷ vals) p.call })
+      choices f.0,
+  h to f.1,
+)
+purpose_fits_mapped program g n h parts (ForGuard ctx m mode c) f = record {
   context = f.context;
   monitor = f.monitor;
   catches = call_mapped_fits (slice_get program c.proc) g n h (value.Num (pos 0) ∷ c.vals) f.catches;
   result = h c.to f.result;
 }
-purpose_fits_mapped program g n h x f = absurd f
 
 numbered_mapped : (g : ℕ → ℕ) (low high : ℕ) (alarms : List Alarm) → AreNumbered number_of low high alarms
     → AreNumbered number_of low high (map (alarm_mapped g) alarms)
@@ -249,8 +326,7 @@ grown_fits program n n' s h f = record {
   normal = all_by (JobFits program n) (JobFits program n') (λ job. held_grows program n n' h job.ctx job.frame.frame) s.queues.normal f.normal;
   low = all_by (JobFits program n) (JobFits program n') (λ job. held_grows program n n' h job.ctx job.frame.frame) s.queues.low f.low;
   monitors = all_by (MonitorFits program n) (MonitorFits program n') (monitor_grows program n n' h) s.monitors f.monitors;
-  purposes = all_by (PurposeFits program n) (PurposeFits program n') (purpose_grows program n n' h) s.purposes f.purposes;
-  paired = f.paired;
+  purposes = zip_by (PurposeFits program n) (PurposeFits program n') (purpose_grows program n n' h) (parts_of s.groups) s.purposes f.purposes;
   clock = clock_grows n n' h s.clock f.clock;
 }
 
@@ -266,7 +342,6 @@ job_pushed program n true job q s f p e = record {
   low = all_push (JobFits program n) q.low job f.low p;
   monitors = f.monitors;
   purposes = f.purposes;
-  paired = f.paired;
   clock = f.clock;
 }
 job_pushed program n false job q s f p e = record {
@@ -275,7 +350,6 @@ job_pushed program n false job q s f p e = record {
   low = f.low;
   monitors = f.monitors;
   purposes = f.purposes;
-  paired = f.paired;
   clock = f.clock;
 }
 
@@ -295,7 +369,6 @@ register_at_fits program n None i ctx frame s f p =
       low = f.low;
       monitors = f.monitors;
       purposes = f.purposes;
-      paired = f.paired;
       clock = f.clock;
     }
 
@@ -313,7 +386,6 @@ fill_empty_fits program n i v s f =
       low = f.low;
       monitors = f.monitors;
       purposes = f.purposes;
-      paired = f.paired;
       clock = f.clock;
     })
     (all_filter (HandlerFits program n) (is_on i) s.cells.registrations f.handlers)
@@ -342,8 +414,7 @@ renamed_fits program n from to s h f =
           all_map (JobFits program n) (JobFits program n) (job_mapped g) (λ job. held_mapped program g n p job.ctx job.frame.frame) s.queues.normal f.normal;
       low = all_map (JobFits program n) (JobFits program n) (job_mapped g) (λ job. held_mapped program g n p job.ctx job.frame.frame) s.queues.low f.low;
       monitors = all_map (MonitorFits program n) (MonitorFits program n) (monitor_mapped g) (monitor_fits_mapped program g n p) s.monitors f.monitors;
-      purposes = all_map (PurposeFits program n) (PurposeFits program n) (purpose_mapped g) (purpose_fits_mapped program g n p) s.purposes f.purposes;
-      paired = length-map s.purposes (purpose_mapped g) ∙ f.paired;
+      purposes = zip_map (PurposeFits program n) (purpose_mapped g) (purpose_fits_mapped program g n p) (parts_of s.groups) s.purposes f.purposes;
       clock = clock_fits_mapped g n p s.clock f.clock;
     }
 
@@ -421,7 +492,12 @@ drawn_one s = length-append s.cells.ivars (None ∷ [])
 
 pub ivar_grows : (program : List NumProc) (s : State) → Fits program s → Grows program s (with_ivar s)
 ivar_grows program s f =
-    let more : More (drawn s) (drawn (with_ivar s)) = record { ivars = omega (arith, drawn_one s); monitors = omega arith; groups = omega arith }
+    let more : More (drawn s) (drawn (with_ivar s)) = record {
+      ivars = omega (arith, drawn_one s);
+      monitors = omega arith;
+      groups = omega arith;
+      parts = λ g. omega arith;
+    }
     in record { more = more; fits = grown_fits program (drawn s) (drawn (with_ivar s)) s more f }
 
 pub connect_grows : (program : List NumProc) (result right : ℕ) (s : State) → result < length s.cells.ivars → Fits program s
@@ -455,7 +531,6 @@ clock_set_grows program c s f p = record {
         low = f.low;
         monitors = f.monitors;
         purposes = f.purposes;
-        paired = f.paired;
         clock = p;
       };
 }
@@ -497,27 +572,32 @@ cycle_grows program s f =
     in let two = alarms_filled_grows program (yields_filled t) one.fits
     in record { more = more_more (drawn s) (drawn (yields_filled t)) (drawn (cycle_begun s)) one.more two.more; fits = two.fits }
 
--- ---- any number may stand in front of the values of a call
-first_any : (n : Drawn) (params : List Kind) (z : ℤ) (vals : List Value) → ValsFit n params (value.Num (pos 0) ∷ vals)
-    → ValsFit n params (value.Num z ∷ vals)
-first_any n [] z vals f = absurd f
-first_any n (kind ∷ params) z vals f = (any_number kind f.0, f.1)
+-- ---- any numbers may stand in front of the values of a call
+any_number : (n : Drawn) (kind : Kind) (z : ℤ) → ValueFits n kind (value.Num (pos 0)) → ValueFits n kind (value.Num z)
+any_number n Num z f = tt
+any_number n Ivar z f = absurd f
+any_number n Def z f = absurd f
+any_number n Mon z f = absurd f
+any_number n Pipe z f = absurd f
+any_number n Thr z f = absurd f
+any_number n Event z f = absurd f
+any_number n Helper z f = absurd f
+
+any_numbers : (n : Drawn) (params : List Kind) (zs : List ℤ) (vals : List Value) → ValsFit n params (numbers (length zs) ++ vals)
+    → ValsFit n params (map value.Num zs ++ vals)
+any_numbers n params [] vals f = f
+any_numbers n [] (z ∷ zs) vals f = absurd f
+any_numbers n (kind ∷ params) (z ∷ zs) vals f = (any_number n kind z f.0, any_numbers n params zs vals f.1)
+
+pub numbers_call : (program : List NumProc) (n : Drawn) (proc : ℕ) (zs : List ℤ) (vals : List Value)
+    → CallFits program n proc (numbers (length zs) ++ vals) → CallFits program n proc (map value.Num zs ++ vals)
+numbers_call program n proc zs vals h = by (slice_get program proc) h
   where
-    any_number : (kind : Kind) → ValueFits n kind (value.Num (pos 0)) → ValueFits n kind (value.Num z)
-    any_number Num f = tt
-    any_number Ivar f = absurd f
-    any_number Def f = absurd f
-    any_number Mon f = absurd f
-    any_number Pipe f = absurd f
-    any_number Thr f = absurd f
-    any_number Event f = absurd f
-    any_number Helper f = absurd f
+    by : (o : Option NumProc) → MatchOption o ⊥ (λ (p : NumProc). ValsFit n (kinds_of p.params) (numbers (length zs) ++ vals))
+        → MatchOption o ⊥ (λ (p : NumProc). ValsFit n (kinds_of p.params) (map value.Num zs ++ vals))
+    by None f = absurd f
+    by (Some p) f = any_numbers n (kinds_of p.params) zs vals f
 
 pub value_call : (program : List NumProc) (n : Drawn) (proc : ℕ) (z : ℤ) (vals : List Value) → ValueCallFits program n proc vals
     → CallFits program n proc (value.Num z ∷ vals)
-value_call program n proc z vals h = by (slice_get program proc) h
-  where
-    by : (o : Option NumProc) → MatchOption o ⊥ (λ (p : NumProc). ValsFit n (kinds_of p.params) (value.Num (pos 0) ∷ vals))
-        → MatchOption o ⊥ (λ (p : NumProc). ValsFit n (kinds_of p.params) (value.Num z ∷ vals))
-    by None f = absurd f
-    by (Some p) f = first_any n (kinds_of p.params) z vals f
+value_call program n proc z vals h = numbers_call program n proc (z ∷ []) vals h

@@ -143,7 +143,7 @@ child_drawn parent s = length-append s.monitors (fresh_monitor parent ∷ [])
 pub child_grows : (program : List NumProc) (parent : ℕ) (s : State) → Fits program s → Grows program s (with_monitor parent s)
 child_grows program parent s f =
     let more : More (drawn s) (drawn (with_monitor parent s)) =
-    record { ivars = omega arith; monitors = omega (arith, child_drawn parent s); groups = omega arith }
+    record { ivars = omega arith; monitors = omega (arith, child_drawn parent s); groups = omega arith; parts = λ g. omega arith }
     in let g = grown_fits program (drawn s) (drawn (with_monitor parent s)) s more f
     in record {
       more = more;
@@ -155,7 +155,6 @@ child_grows program parent s f =
             monitors = all_push (MonitorFits program (drawn (with_monitor parent s))) s.monitors (fresh_monitor parent) g.monitors
                 (fresh_fits program (drawn (with_monitor parent s)) parent);
             purposes = g.purposes;
-            paired = g.paired;
             clock = g.clock;
           };
     }
@@ -171,7 +170,6 @@ set_grows program m x s f p =
       low = f.low;
       monitors = all_set (MonitorFits program (drawn s)) s.monitors m x f.monitors p;
       purposes = f.purposes;
-      paired = f.paired;
       clock = f.clock;
     })
 

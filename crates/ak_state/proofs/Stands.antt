@@ -23,6 +23,7 @@ use Rattle.ak_machine.specs.Mapped.{task_mapped, frame_mapped, state_named}
 use Rattle.ak_machine.proofs.Mapped.{enqueue_named, fill_empty_named, register_at_named, state_named_law}
 use Rattle.ak_machine.proofs.Names.{name_in-own, name_in-renamed, trimmed-fresh, name_in-trimmed, name_in-drawn}
 use Rattle.ak_state.specs.Seen.{Seen, IsKept, raw_state, seen, doing, enqueued_for, with_jobs, without_pick}
+use Rattle.ak_state.specs.Groups.{waits_under}
 use Rattle.ak_state.proofs.Picks.{picked_mapped}
 
 -- a state beside names
@@ -120,6 +121,26 @@ seen_full cells q t lists i ctx frame frame' v p =
     (seen c q t lists)) (ap (λ o. registered_at o (name_in cells.names i) ctx frame cells) e.0)
     ∙ ap (λ (x : Frame). doing (enqueue ctx (task_mapped (name_in (trimmed cells.names)) (record { frame = x; value = Some v }))) (seen cells q t lists)) e.1
     ∙ registers_by cells q t lists i ctx (frame_mapped (name_in (trimmed cells.names)) frame) (Some v) e.0
+
+-- the number under which it waits
+under_by : (o : Option ℤ) (frame : Frame) (c : Cells Frame) (number : ℕ) (s : State) → s.cells.next ≡ c.next → placed_at o frame c ≡ Kept number
+    → Some number ≡ waits_under o s
+under_by None frame c number s e p = let same : number ≡ c.next = cc in ap Some (same ∙ sym e)
+under_by (Some v) frame c number s e p = absurd (cc)
+
+pub waits_kept : (cells : NamedCells Frame) (q : Queues Task) (t : List Entry) (lists : State) (i : ℕ) (frame : Frame) (number : ℕ)
+    → placed_at (number_of i cells) frame cells.cells ≡ Kept number
+    → Some number ≡ waits_under (number_at (name_in (trimmed cells.names) i) (seen cells q t lists).plain) (seen cells q t lists).plain
+waits_kept cells q t lists i frame number p =
+    under_by (number_of i cells) frame cells.cells number (seen cells q t lists).plain refl p
+    ∙ ap (λ o. waits_under o (seen cells q t lists).plain) (sym (number_seen cells i))
+
+pub waits_full : (cells : NamedCells Frame) (q : Queues Task) (t : List Entry) (lists : State) (i : ℕ) (frame frame' : Frame) (v : ℤ)
+    → placed_at (number_of i cells) frame cells.cells ≡ Full v frame'
+    → None ≡ waits_under (number_at (name_in (trimmed cells.names) i) (seen cells q t lists).plain) (seen cells q t lists).plain
+waits_full cells q t lists i frame frame' v p =
+    ap (λ o. waits_under o (seen cells q t lists).plain)
+    (sym (full_some (number_of i cells) frame frame' cells.cells v p).0 ∙ sym (number_seen cells i))
 
 -- ---- a fill, by whether the ivar is empty
 fills_by : (cells : NamedCells Frame) (q : Queues Task) (t : List Entry) (lists : State) (i : ℕ) (v : ℤ) (o : Option ℤ) → number_of i cells ≡ o →

@@ -1,6 +1,6 @@
 -- Which values, frames and handlers fit a program: each names what was drawn, and is of the kind that is wanted.
-use Rattle.std.specs.Prelude.{ℕ, pos, ◌<◌, ◌≤◌, ◌≡◌, List, [], ◌∷◌, map, length, slice_get, MatchOption}
-use Rattle.std.specs.List.{AllByRecursion}
+use Rattle.std.specs.Prelude.{ℕ, pos, ◌<◌, ◌≤◌, List, [], ◌∷◌, ◌++◌, map, replicate, slice_get, MatchOption}
+use Rattle.std.specs.List.{AllByRecursion, AllZip}
 use Rattle.ak_base.specs.declared.number.Ctx.{Ctx}
 use Rattle.ak_rings.specs.declared.job.Job.{Job}
 use Rattle.ak_cells.specs.declared.registration.Registration.{Registration}
@@ -9,7 +9,7 @@ use Rattle.ak_frames.specs.declared.value.Value.TheVariants as value
 use Rattle.ak_frames.specs.declared.frame.Ret.{Ret}
 use Rattle.ak_frames.specs.declared.frame.Ret.TheVariants.{Drop, To, TryBody}
 use Rattle.ak_frames.specs.declared.frame.Frame.{Frame}
-use Rattle.ak_frames.specs.declared.frame.Frame.TheVariants.{Call, OnValue, TryDone}
+use Rattle.ak_frames.specs.declared.frame.Frame.TheVariants.{Call, OnValue, AllPart, ChoicePart, TryDone}
 use Rattle.ak_frames.specs.declared.frame.Task.{Task}
 use Rattle.ak_script.specs.declared.script.Kind.{Kind}
 use Rattle.ak_script.specs.declared.script.Kind.TheVariants.{Num, Ivar, Def, Mon, Event}
@@ -21,12 +21,13 @@ use Rattle.ak_clock.specs.declared.alarm.Alarm.{Alarm}
 use Rattle.ak_clock.specs.Clock.{Clock}
 use Rattle.ak_clock.specs.Order.{number_of}
 use Rattle.ak_machine.specs.declared.held.Callback.{Callback}
+use Rattle.ak_machine.specs.declared.held.Choosable.{Choosable}
 use Rattle.ak_machine.specs.declared.held.Handler.{Handler}
 use Rattle.ak_machine.specs.declared.held.Handler.TheVariants.{OnError, OfGuard}
 use Rattle.ak_machine.specs.declared.held.Purpose.{Purpose}
-use Rattle.ak_machine.specs.declared.held.Purpose.TheVariants.{ForGuard}
+use Rattle.ak_machine.specs.declared.held.Purpose.TheVariants.{ForAll, ForAny, ForChoice, ForGuard}
 use Rattle.ak_machine.specs.State.{State}
-use Rattle.ak_state.specs.Drawn.{Drawn, drawn}
+use Rattle.ak_state.specs.Drawn.{Drawn, drawn, parts_of, parts_at}
 
 -- a value of a kind, where so much was drawn
 abbrev pub ValueFits : Drawn → Kind → Value → Type 0
@@ -67,6 +68,8 @@ ValueCallFits program n proc vals = CallFits program n proc (value.Num (pos 0) �
 abbrev pub FrameFits : List NumProc → Drawn → Frame → Type 0
 FrameFits program n (Call proc vals ret) = CallFits program n proc vals × RetFits n ret
 FrameFits program n (OnValue proc vals ret) = ValueCallFits program n proc vals × RetFits n ret
+FrameFits program n (AllPart g k) = k < parts_at g n
+FrameFits program n (ChoicePart g) = g < n.groups
 FrameFits program n (TryDone g) = g < n.groups
 FrameFits program n other = ⊥
 
@@ -104,10 +107,32 @@ pub record GuardFits (program : List NumProc) (n : Drawn) (ctx : Ctx) (m : ℕ) 
   pub catches : ValueCallFits program n catch.proc catch.vals
   pub result : catch.to < n.ivars
 
--- what a group is for
-abbrev pub PurposeFits : List NumProc → Drawn → Purpose → Type 0
-PurposeFits program n (ForGuard ctx m mode catch) = GuardFits program n ctx m catch
-PurposeFits program n other = ⊥
+-- so many numbers in front of the values of a call
+abbrev pub numbers : ℕ → List Value
+numbers count = replicate count (value.Num (pos 0))
+
+-- a call that waits for no number
+pub record CallbackFits (program : List NumProc) (n : Drawn) (c : Callback) : Type 0 where
+  pub call : CallFits program n c.proc c.vals
+  pub result : c.to < n.ivars
+
+-- an `all`: its call takes the numbers of so many parts in front of its values
+pub record AllFits (program : List NumProc) (n : Drawn) (parts : ℕ) (c : Callback) : Type 0 where
+  pub few : parts ≤ 8
+  pub call : CallFits program n c.proc (numbers parts ++ c.vals)
+  pub result : c.to < n.ivars
+
+-- a deferred of a choice, and the procedure that takes its number in front of the values
+pub record ChoosableFits (program : List NumProc) (n : Drawn) (vals : List Value) (choice : Choosable) : Type 0 where
+  pub deferred : choice.deferred < n.ivars
+  pub call : ValueCallFits program n choice.proc vals
+
+-- what a group of so many parts is for
+abbrev pub PurposeFits : List NumProc → Drawn → ℕ → Purpose → Type 0
+PurposeFits program n parts (ForAll c) = AllFits program n parts c
+PurposeFits program n parts (ForAny ds to) = AllByRecursion (λ d. d < n.ivars) ds × (to < n.ivars)
+PurposeFits program n parts (ForChoice choices vals to) = AllByRecursion (ChoosableFits program n vals) choices × (to < n.ivars)
+PurposeFits program n parts (ForGuard ctx m mode catch) = GuardFits program n ctx m catch
 
 -- an alarm: the deferred that it fills was drawn
 abbrev pub AlarmFits : Drawn → Alarm → Type 0
@@ -122,19 +147,18 @@ pub record ClockFits (n : Drawn) (c : Clock) : Type 0 where
 
 -- all that a state holds, list by list; each group has its purpose
 pub record ListsFit (program : List NumProc) (n : Drawn) (of_registrations : List (Registration Frame))
-    (of_normal of_low : List (Job Task)) (of_monitors : List (Monitor Handler)) (of_purposes : List Purpose) (groups : ℕ)
+    (of_normal of_low : List (Job Task)) (of_monitors : List (Monitor Handler)) (of_purposes : List Purpose) (of_parts : List ℕ)
     (of_clock : Clock) : Type 0 where
   pub handlers : AllByRecursion (HandlerFits program n) of_registrations
   pub normal : AllByRecursion (JobFits program n) of_normal
   pub low : AllByRecursion (JobFits program n) of_low
   pub monitors : AllByRecursion (MonitorFits program n) of_monitors
-  pub purposes : AllByRecursion (PurposeFits program n) of_purposes
-  pub paired : length of_purposes ≡ groups
+  pub purposes : AllZip (PurposeFits program n) of_parts of_purposes
   pub clock : ClockFits n of_clock
 
 abbrev pub StateFits : List NumProc → Drawn → State → Type 0
 StateFits program n s =
-    ListsFit program n s.cells.registrations s.queues.normal s.queues.low s.monitors s.purposes (length s.groups) s.clock
+    ListsFit program n s.cells.registrations s.queues.normal s.queues.low s.monitors s.purposes (parts_of s.groups) s.clock
 
 -- all of a state fits a program
 abbrev pub Fits : List NumProc → State → Type 0

@@ -3,5 +3,6 @@ pub mod Reads
 pub mod Drawn
 pub mod Fits
 pub mod Guards
+pub mod Groups
 pub mod Errors
 pub mod Alarms

@@ -1,5 +1,6 @@
 -- What a statement reads of a job's values.
-use Rattle.std.specs.Prelude.{ℕ, ◌<◌, List, length, All}
+use Rattle.std.specs.Prelude.{ℕ, ◌<◌, List, length, All, Option}
+use Rattle.std.specs.Option.{option_map}
 use Rattle.ak_cells.specs.Names.{name_in}
 use Rattle.ak_frames.specs.declared.value.Value.{Value}
 use Rattle.ak_frames.specs.declared.value.Value.TheVariants.{Num, Ivar, Def, Mon, Pipe, Thr, Event, Helper}
@@ -8,10 +9,12 @@ use Rattle.ak_frames.specs.declared.frame.Frame.{Frame}
 use Rattle.ak_frames.specs.declared.frame.Task.{Task}
 use Rattle.ak_rings.specs.declared.job.Job.{Job}
 use Rattle.ak_program.specs.declared.statement.NumAtom.{NumAtom}
+use Rattle.ak_program.specs.declared.statement.NumChoice.{NumChoice}
 use Rattle.ak_program.specs.declared.statement.NumAtom.TheVariants.{Literal, Local}
+use Rattle.ak_machine.specs.declared.held.Callback.{Callback}
 use Rattle.ak_machine.specs.State.{State}
 use Rattle.ak_machine.specs.Effect.{local, value_of}
-use Rattle.ak_machine.specs.Mapped.{value_mapped, values_mapped, ret_mapped, frame_mapped, job_mapped}
+use Rattle.ak_machine.specs.Mapped.{value_mapped, values_mapped, ret_mapped, frame_mapped, job_mapped, callback_mapped}
 use Rattle.ak_state.specs.Seen.{Seen}
 
 -- values with surviving names
@@ -30,6 +33,10 @@ frame_named s frame = frame_mapped (name_in s.names) frame
 
 abbrev pub job_named : Seen → Job Task → Job Task
 job_named s job = job_mapped (name_in s.names) job
+
+-- a call, where there is one
+abbrev pub call_named : Seen → Option Callback → Option Callback
+call_named s call = option_map (callback_mapped (name_in s.names)) call
 
 abbrev pub IsNum : Value → Type 0
 IsNum (Num z) = Unit {0}
@@ -107,6 +114,13 @@ IsNumAt vals a = IsBound (length vals) a × IsNum (value_of vals a)
 -- a deferred that a local names
 abbrev pub IsDeferredAt : State → List Value → ℕ → Type 0
 IsDeferredAt s vals k = IsDeferred (length s.cells.ivars) (local vals k)
+
+-- deferreds that locals name, and those of the choices of a list
+abbrev pub AreDeferredsAt : State → List Value → List ℕ → Type 0
+AreDeferredsAt s vals ks = All (IsDeferredAt s vals) ks
+
+abbrev pub AreChoicesAt : State → List Value → List NumChoice → Type 0
+AreChoicesAt s vals choices = All (λ (choice : NumChoice). IsDeferredAt s vals choice.d) choices
 
 -- a monitor that a local names
 abbrev pub IsMonitorAt : State → List Value → ℕ → Type 0

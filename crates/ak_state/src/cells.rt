@@ -1,9 +1,9 @@
 //! Calls of the ivars whose steps nobody counts.
 
 ghost use Rattle.std.specs.Prelude.{◌≡◌, ◌-◌, ◌<◌, ◌^◌, [], length, None, OnOk, OnErr, IsOk, ◌↔◌};
-ghost use Rattle.ak_cells.specs.Rooms.{name_of, number_of, registered, placed_at, filled_named, connected, connection_of};
+ghost use Rattle.ak_cells.specs.Rooms.{name_of, number_of, registered, placed_at, unregistered_named, filled_named, connected, connection_of};
 
-use ak_base::number::{Ctx, IvarNo, Num};
+use ak_base::number::{Ctx, IvarNo, Num, RegNo};
 use ak_cells::cells::Cells;
 use ak_cells::registration::{Connected, FullAlready, Placed};
 use ak_cells::steps::Steps;
@@ -31,6 +31,26 @@ pub fn name(cells: &mut Cells<Frame>, i: IvarNo) -> IvarNo
     ensures same { cells.new ≡ cells.old }
 {
     name_by::<Brand>(cells, i, Blank::new(1))
+}
+
+fn look_by<L: Ledger>(cells: &mut Cells<Frame>, i: IvarNo, blank: Blank) -> Option<Num>
+    requires ledger { blank.name ≡ L.name }
+    requires parts { blank.parts ≡ L.parts }
+    requires some { 0 < blank.parts }
+    requires drawn { i < length cells.old.named.cells.ivars }
+    ensures number { result ≡ number_of i cells.old.named }
+    ensures same { cells.new ≡ cells.old }
+{
+    cells.look(i, &mut Steps::<L>::new(blank))
+}
+
+/// What an ivar that was drawn is full with: `None` exactly where it is empty.
+pub fn look(cells: &mut Cells<Frame>, i: IvarNo) -> Option<Num>
+    requires { i < length cells.old.named.cells.ivars }
+    ensures number { result ≡ number_of i cells.old.named }
+    ensures same { cells.new ≡ cells.old }
+{
+    look_by::<Brand>(cells, i, Blank::new(1))
 }
 
 fn register_by<L: Ledger>(
@@ -61,6 +81,13 @@ pub fn register(cells: &mut Cells<Frame>, i: IvarNo, ctx: &Ctx, frame: Frame) ->
     ensures named { cells.new.named ≡ registered i ctx.now frame cells.old.named }
 {
     register_by::<Brand>(cells, i, ctx, frame, Blank::new(1))
+}
+
+/// The handler of that number waits no longer.
+pub fn unregister(cells: &mut Cells<Frame>, registration: RegNo)
+    ensures { cells.new.named ≡ unregistered_named registration cells.old.named }
+{
+    let _frame = cells.unregister(registration);
 }
 
 fn fill_by<L: Ledger>(

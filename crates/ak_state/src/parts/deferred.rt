@@ -6,11 +6,12 @@ ghost use Rattle.ak_machine.specs.State.{State};
 ghost use Rattle.ak_machine.specs.Deferred.{enqueue, with_ivar, number_at as full_with, is_empty, fill, register, connect};
 ghost use Rattle.ak_machine.specs.Mapped.{task_mapped, frame_mapped};
 ghost use Rattle.ak_state.specs.Seen.{doing, enqueued_for, with_jobs};
+ghost use Rattle.ak_state.specs.Groups.{waits_under};
 
 use crate::cells;
 use crate::parts::Parts;
 use ak_base::list::NoMemory;
-use ak_base::number::{Ctx, IvarNo, Num};
+use ak_base::number::{Ctx, IvarNo, Num, RegNo};
 use ak_cells::cells::Cells;
 use ak_cells::registration::{Connected, Placed, Woken};
 use ak_frames::frame::{Frame, Task};
@@ -38,20 +39,22 @@ impl Parts {
         Ok(self.cells.fresh())
     }
 
-    /// The frame waits for an ivar, or is enqueued with its number.
-    pub fn register(&mut self, i: IvarNo, ctx: Ctx, frame: Frame) -> Result<(), NoMemory>
+    /// The frame waits for an ivar, under the number that is the answer, or is enqueued with the number of the ivar.
+    pub fn register(&mut self, i: IvarNo, ctx: Ctx, frame: Frame) -> Result<Option<RegNo>, NoMemory>
         requires { i < length self.old.plain.cells.ivars }
-        ensures { OnOk result (self.new ≡ doing
+        ensures registered { OnOk result (self.new ≡ doing
             (register (name_in self.old.names i) ctx (frame_mapped (name_in self.old.names) frame))
             self.old) }
+        ensures number { IfOk result (λ registration. registration
+            ≡ waits_under (full_with (name_in self.old.names i) self.old.plain) self.old.plain) }
     {
         self.cells.reserve(0, 1)?;
         match cells::register(&mut self.cells, i, &ctx, frame) {
-            Placed::Kept(_) => Ok(()),
+            Placed::Kept(registration) => Ok(Some(registration)),
             Placed::Full { num, frame } => {
                 let value = Some(num);
                 self.enqueue(ctx, Task { frame, value })?;
-                Ok(())
+                Ok(None)
             }
         }
     }

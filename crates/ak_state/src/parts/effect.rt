@@ -1,17 +1,20 @@
 //! The values that a statement reads.
 
-ghost use Rattle.std.specs.Prelude.{◌≡◌, ◌<◌, length, IfOk};
+ghost use Rattle.std.specs.Prelude.{◌≡◌, ◌<◌, length, map, IfOk};
+ghost use Rattle.std.specs.List.{All};
 ghost use Rattle.ak_cells.specs.Names.{name_in};
-ghost use Rattle.ak_machine.specs.Mapped.{value_mapped, values_mapped};
+ghost use Rattle.ak_machine.specs.Mapped.{value_mapped, values_mapped, choosable_mapped};
 ghost use Rattle.ak_machine.specs.Effect.{value_of, number_in, name_in as name_at, args_of};
-ghost use Rattle.ak_state.specs.Reads.{named, IsNumAt, IsDeferredAt, IsMonitorAt, IsEventAt, IsBound, AreBound};
+ghost use Rattle.ak_machine.specs.Statement.{choosable};
+ghost use Rattle.ak_state.specs.Reads.{named, IsNumAt, IsDeferredAt, AreDeferredsAt, AreChoicesAt, IsMonitorAt, IsEventAt, IsBound, AreBound};
 
 use crate::local::{event_of, ivar_of, local_at, mon_of, num_of};
 use crate::parts::Parts;
 use ak_base::list::{Items, NoMemory};
 use ak_base::number::{EventNo, IvarNo, MonNo, Num};
 use ak_frames::value::{Vals, Value};
-use ak_program::statement::{NumArgs, NumAtom};
+use ak_machine::held::Choosable;
+use ak_program::statement::{NumArgs, NumAtom, NumChoices, Places};
 
 impl Parts {
     /// The number that an atom is.
@@ -34,6 +37,43 @@ impl Parts {
         let i = ivar_of(local_at(vals, k));
         self.check_drawn(i);
         i
+    }
+
+    /// The ivars that locals name.
+    pub fn deferreds_at(&self, vals: &Vals, places: &Places) -> Result<Items<IvarNo>, NoMemory>
+        requires { AreDeferredsAt self.now.plain (named self.now vals.now) places.now }
+        ensures names { IfOk result (λ ivars. map (name_in self.now.names) ivars
+            ≡ map (name_at (named self.now vals.now)) places.now) }
+        ensures drawn { IfOk result (λ ivars.
+            All (λ i. i < length self.now.plain.cells.ivars) ivars) }
+    {
+        let mut ivars = Vec::with_capacity(self.alloc, places.len())?;
+        for k in places.as_slice() {
+            ivars.push(self.deferred_at(vals, *k))?;
+        }
+        Ok(Items::from_vec(ivars))
+    }
+
+    /// The choices of a list: the ivar that the local of each names, and its procedure.
+    pub fn choices_at(
+        &self,
+        vals: &Vals,
+        choices: &NumChoices,
+    ) -> Result<Items<Choosable>, NoMemory>
+        requires { AreChoicesAt self.now.plain (named self.now vals.now) choices.now }
+        ensures choices { IfOk result (λ all. map (choosable_mapped (name_in self.now.names)) all
+            ≡ map (choosable (named self.now vals.now)) choices.now) }
+        ensures drawn { IfOk result (λ all.
+            All (λ choice. choice.deferred < length self.now.plain.cells.ivars) all) }
+    {
+        let mut all = Vec::with_capacity(self.alloc, choices.len())?;
+        for choice in choices.as_slice() {
+            all.push(Choosable {
+                deferred: self.deferred_at(vals, choice.d),
+                proc: choice.proc,
+            })?;
+        }
+        Ok(Items::from_vec(all))
     }
 
     /// The monitor that a local names.

@@ -1,8 +1,12 @@
+use Rattle.std.proofs.Common.{◌≤◌, length, arith}
+use Rattle.ak_machine.specs.Groups.{part_at}
 use Rattle.ak_machine.specs.Job.{value_or_zero}
 use Rattle.ak_state.specs.Drawn.{drawn}
 use Rattle.ak_state.specs.Reads.{named}
+use Rattle.ak_state.specs.Groups.{choice_ended}
 use Rattle.ak_state.proofs.Fitting.{value_call}
-use Rattle.ak_state.proofs.Groups.{try_done_grows}
+use Rattle.ak_state.proofs.Groups.{with_parts, try_done_grows}
+use Rattle.ak_state.proofs.Choices.{part_ended_grows, part_call_fits, choice_ended_grows, choice_call_fits}
 use Rattle.ak_exec.proofs.frames.run_task.Goals as goal
 
 pub run_call-requires-in-OnValue-clause-call : goal.run_call-requires-in-OnValue-clause-call
@@ -12,8 +16,44 @@ run_call-requires-in-OnValue-clause-call c =
     (value_call c.args.program.now.procs (drawn c.args.parts.now.plain) c.in-OnValue.proc (value_or_zero c.args.task.value)
     (named c.args.parts.now c.in-OnValue.vals) frame.0)
 
+-- ---- a part of an `all`
+pub run_call_if-requires-clause-call : goal.run_call_if-requires-clause-call
+run_call_if-requires-clause-call c =
+    let s = c.args.parts.now.plain
+    in let g = c.in-AllPart.group
+    in let k = c.in-AllPart.part
+    in let there = with_parts s.groups g k (rw c.in-AllPart.is at c.requires.frame)
+    in let told = c.in_ok-call-in-AllPart.ensures
+    in rw told.ended (part_call_fits c.args.program.now.procs (part_at g k s) g k _ s _ c.requires.fits there told.call)
+
+pub run_call_if-requires-clause-fits : goal.run_call_if-requires-clause-fits
+run_call_if-requires-clause-fits c =
+    let s = c.args.parts.now.plain
+    in let g = c.in-AllPart.group
+    in let k = c.in-AllPart.part
+    in rw c.in_ok-call-in-AllPart.ensures.ended (part_ended_grows c.args.program.now.procs (part_at g k s) g k _ s c.requires.fits).fits
+
+-- ---- a choice
+pub run_call_if-requires-in-ChoicePart-clause-monitor : goal.run_call_if-requires-in-ChoicePart-clause-monitor
+run_call_if-requires-in-ChoicePart-clause-monitor c =
+    let s = c.args.parts.now.plain
+    in let g = c.in-ChoicePart.group
+    in let more : length s.monitors ≤ length (choice_ended g s).monitors =
+    (choice_ended_grows c.args.program.now.procs g s c.requires.fits).more.monitors
+    in rw c.in_ok-call-in-ChoicePart.ensures.ended (omega (arith, c.requires.monitor, more))
+
+pub run_call_if-requires-in-ChoicePart-clause-call : goal.run_call_if-requires-in-ChoicePart-clause-call
+run_call_if-requires-in-ChoicePart-clause-call c =
+    let there = rw c.in-ChoicePart.is at c.requires.frame
+    in let told = c.in_ok-call-in-ChoicePart.ensures
+    in rw told.ended (choice_call_fits c.args.program.now.procs c.in-ChoicePart.group c.args.parts.now.plain _ c.requires.fits there told.call)
+
+pub run_call_if-requires-in-ChoicePart-clause-fits : goal.run_call_if-requires-in-ChoicePart-clause-fits
+run_call_if-requires-in-ChoicePart-clause-fits c =
+    rw c.in_ok-call-in-ChoicePart.ensures.ended
+    (choice_ended_grows c.args.program.now.procs c.in-ChoicePart.group c.args.parts.now.plain c.requires.fits).fits
+
 pub returns-in_ok-end_try-in-TryDone-clause-fits : goal.returns-in_ok-end_try-in-TryDone-clause-fits
 returns-in_ok-end_try-in-TryDone-clause-fits c =
-    let there = rw c.in-TryDone.is at c.requires.frame
-    in rw c.in_ok-end_try-in-TryDone.ensures
-    (try_done_grows c.args.program.now.procs c.in-TryDone.guard _ c.args.parts.now.plain c.requires.fits there).fits
+    rw c.in_ok-end_try-in-TryDone.ensures
+    (try_done_grows c.args.program.now.procs c.in-TryDone.guard _ c.args.parts.now.plain c.requires.fits).fits
