@@ -1,5 +1,6 @@
 mod Values
 pub mod Typed
+mod Groups
 mod Lists
 pub mod Way
 pub mod Returned

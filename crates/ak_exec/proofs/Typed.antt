@@ -1,8 +1,8 @@
 -- Lines of a sound program: each statement finds what it needs, and what it leaves fits.
-use Rattle.std.proofs.Common.{◌≡◌, ℕ, ◌<◌, List, [], ◌∷◌, ◌++◌, length, subst, sym, ap, arith, Bool, true, false, cond, append_assoc}
+use Rattle.std.proofs.Common.{◌≡◌, ℕ, ◌<◌, List, [], ◌∷◌, ◌++◌, length, map, subst, sym, ap, arith, Bool, true, false, cond, append_assoc}
 use Rattle.std.specs.Prelude.{ℤ, ◌+ℤ◌, pos, Option, Some, None, Result, Ok, Err}
 use Rattle.std.specs.List.{AllByRecursion}
-use Rattle.std.proofs.lemmas.List.{append-nil}
+use Rattle.std.proofs.lemmas.List.{append-nil, length-map}
 use Rattle.ak_base.specs.Numbers.{fits}
 use Rattle.ak_base.specs.declared.number.Ctx.{Ctx}
 use Rattle.ak_script.specs.declared.script.Kind.{Kind}
@@ -24,6 +24,7 @@ use Rattle.ak_program.specs.Programs.{number, prefix_uses, IsKnown, StatementIsS
 use Rattle.ak_machine.specs.declared.flow.Flow.{Flow}
 use Rattle.ak_machine.specs.declared.flow.Flow.TheVariants as flow
 use Rattle.ak_machine.specs.declared.held.Callback.{Callback}
+use Rattle.ak_machine.specs.declared.held.Choosable.{Choosable}
 use Rattle.ak_machine.specs.declared.held.Handler.TheVariants.{OnError}
 use Rattle.ak_clock.specs.declared.alarm.TickRefused.{TickRefused}
 use Rattle.ak_clock.specs.declared.alarm.TickRefused.TheVariants.{Negative, Overflow}
@@ -33,22 +34,23 @@ use Rattle.ak_machine.specs.State.{State, next_ivar}
 use Rattle.ak_machine.specs.Number.{Computed, Gives, Overflows, DividesByZero, computed}
 use Rattle.ak_machine.specs.Deferred.{noting, plain_task, with_ivar, is_empty, fill, register}
 use Rattle.ak_machine.specs.Monitors.{with_monitor, detach, handled_by, next_error_awaited, in_monitor}
-use Rattle.ak_machine.specs.Groups.{try_begun}
+use Rattle.ak_machine.specs.Groups.{all_begun, any_begun, choice_begun, try_begun}
 use Rattle.ak_machine.specs.Errors.{After, send}
 use Rattle.ak_machine.specs.Effect.{Effect, Goes, Raises, Returns, Ends, overflow, full_ivar, bound, result_bound, local, name_of, number_in, name_in, args_of, call_to_fresh, holds}
-use Rattle.ak_machine.specs.Statement.{effect_of, set_effect, sent_effect, tick_effect, line_effect}
+use Rattle.ak_machine.specs.Statement.{choosable, effect_of, set_effect, sent_effect, tick_effect, line_effect}
 use Rattle.ak_exec.specs.Ready.{IsReady, IsTold}
 use Rattle.ak_exec.specs.Built.{IsBuiltStmt}
 use Rattle.ak_state.specs.Drawn.{Drawn, drawn}
-use Rattle.ak_state.specs.Fits.{ValueFits, ValsFit, kinds_of, RetFits, CallFits, Fits}
+use Rattle.ak_state.specs.Fits.{ValueFits, ValsFit, kinds_of, RetFits, CallFits, numbers, Fits}
 use Rattle.ak_exec.specs.Typed.{kinds_after, AreTyped, IsReturned, EffectFits, IsUnderWay}
-use Rattle.ak_exec.proofs.Values.{ivar_at, def_at, mon_at, event_at, num_at, returned_at, call_bound, call_fits, value_call_fits, all_front, all_back, vals_push}
+use Rattle.ak_exec.proofs.Values.{ivar_at, def_at, mon_at, event_at, num_at, returned_at, call_bound, front_call_fits, call_fits, value_call_fits, defs_at, names_drawn, choices_at, choice_bound, choices_fit, all_front, all_back, vals_push}
 use Rattle.ak_state.specs.Reads.{IsMonitor}
 use Rattle.ak_state.specs.Alarms.{at_time}
 use Rattle.ak_state.proofs.Alarms.{yield_grows, alarm_grows, abort_grows, time_grows}
 use Rattle.ak_state.proofs.Fitting.{Grows, kept_grows, then_grows, vals_grow, ret_grows, noted_grows, enqueue_grows, fill_grows, register_grows, register_drawn, ivar_grows, drawn_one}
 use Rattle.ak_state.proofs.Monitors.{child_drawn, child_grows, detach_grows, handled_grows, awaited_grows}
 use Rattle.ak_state.proofs.Groups.{try_begun_grows}
+use Rattle.ak_state.proofs.Choices.{all_begun_grows, any_begun_grows, choice_begun_grows}
 use Rattle.ak_state.proofs.Errors.{send_grows}
 
 -- a statement of a sound program finds what it needs
@@ -70,6 +72,11 @@ ready program kinds prefix line (stmt.Upon d proc args) s vals f h built =
     (def_at (drawn s) kinds vals d f h.uses.0, call_bound program (drawn s) kinds vals proc 1 args f h.calls.0)
 ready program kinds prefix line (stmt.Bind r d proc args) s vals f h built =
     (def_at (drawn s) kinds vals d f h.uses.0, call_bound program (drawn s) kinds vals proc 1 args f h.calls.0)
+ready program kinds prefix line (stmt.All r ds proc args) s vals f h built =
+    (h.within.1, defs_at (drawn s) kinds vals ds f h.uses, call_bound program (drawn s) kinds vals proc (length ds) args f h.calls.0)
+ready program kinds prefix line (stmt.Any r ds) s vals f h built = defs_at (drawn s) kinds vals ds f h.uses
+ready program kinds prefix line (stmt.Choose r choices args) s vals f h built =
+    (choices_at (drawn s) kinds vals choices f h.uses, choice_bound program (drawn s) kinds vals choices args f h.within.0 h.calls)
 ready program kinds prefix line (stmt.Sched proc args) s vals f h built = call_bound program (drawn s) kinds vals proc 0 args f h.calls.0
 ready program kinds prefix line (stmt.Low proc args) s vals f h built = call_bound program (drawn s) kinds vals proc 0 args f h.calls.0
 ready program kinds prefix line (stmt.Yield r) s vals f h built = tt
@@ -220,6 +227,42 @@ effect_fits program ctx kinds prefix line (stmt.Bind r d proc args) s vals mon f
     in binds_fit program kinds s (register (name_in vals d) ctx (OnValue proc (args_of vals args) (To (length s.cells.ivars))) (with_ivar s)) vals Def
     (value.Def (length s.cells.ivars)) f grows
     (drawn_below ctx s (name_in vals d) proc (args_of vals args))
+effect_fits program ctx kinds prefix line (stmt.All r ds proc args) s vals mon f h built g =
+    let t : State = with_ivar s
+    in let is : List ℕ = map (name_in vals) ds
+    in let call : Callback = call_to_fresh s proc (args_of vals args)
+    in let one = ivar_grows program s g
+    in let fit : ValsFit (drawn t) kinds vals = vals_grow (drawn s) (drawn t) kinds vals one.more f
+    in let new : next_ivar s < length t.cells.ivars = omega (arith, drawn_one s)
+    in let long : length is ≡ length ds = length-map ds (name_in vals)
+    in let two = all_begun_grows program ctx is call t one.fits mon
+    (record {
+      few = omega (arith, long, h.within.1);
+      call = subst (λ k. CallFits program (drawn t) proc (numbers k ++ args_of vals args)) (sym long)
+          (front_call_fits program (drawn t) kinds vals proc (length ds) args fit h.calls.0);
+      result = new;
+    })
+    in binds_fit program kinds s (all_begun ctx is call t) vals Def (value.Def (next_ivar s)) f
+    (then_grows program s t (all_begun ctx is call t) one two) (omega (arith, new, two.more.ivars))
+effect_fits program ctx kinds prefix line (stmt.Any r ds) s vals mon f h built g =
+    let t : State = with_ivar s
+    in let is : List ℕ = map (name_in vals) ds
+    in let one = ivar_grows program s g
+    in let fit : ValsFit (drawn t) kinds vals = vals_grow (drawn s) (drawn t) kinds vals one.more f
+    in let new : next_ivar s < length t.cells.ivars = omega (arith, drawn_one s)
+    in let two = any_begun_grows program ctx is (next_ivar s) t one.fits mon (names_drawn (drawn t) kinds vals ds fit h.uses, new)
+    in binds_fit program kinds s (any_begun ctx is (next_ivar s) t) vals Def (value.Def (next_ivar s)) f
+    (then_grows program s t (any_begun ctx is (next_ivar s) t) one two) (omega (arith, new, two.more.ivars))
+effect_fits program ctx kinds prefix line (stmt.Choose r choices args) s vals mon f h built g =
+    let t : State = with_ivar s
+    in let all : List Choosable = map (choosable vals) choices
+    in let one = ivar_grows program s g
+    in let fit : ValsFit (drawn t) kinds vals = vals_grow (drawn s) (drawn t) kinds vals one.more f
+    in let new : next_ivar s < length t.cells.ivars = omega (arith, drawn_one s)
+    in let two = choice_begun_grows program ctx all (args_of vals args) (next_ivar s) t one.fits mon
+    (choices_fit program (drawn t) kinds vals choices args fit h.uses h.calls, new)
+    in binds_fit program kinds s (choice_begun ctx all (args_of vals args) (next_ivar s) t) vals Def (value.Def (next_ivar s)) f
+    (then_grows program s t (choice_begun ctx all (args_of vals args) (next_ivar s) t) one two) (omega (arith, new, two.more.ivars))
 effect_fits program ctx kinds prefix line (stmt.Sched proc args) s vals mon f h built g =
     goes_fit program kinds s _ vals f (enqueue_grows program (record ctx { low = false }) (plain_task (Call proc (args_of vals args) Drop)) s g
     (record { monitor = mon; frame_fits = (call_fits program (drawn s) kinds vals proc args f h.calls.0, tt) }))

@@ -1,7 +1,8 @@
 -- Values of the right kind: what a statement of a sound program reads.
-use Rattle.std.proofs.Common.{◌≡◌, ◌⊎◌, inl, inr, ℕ, zero, suc, ◌<◌, List, [], ◌∷◌, ◌++◌, length, drop, get_or, subst, sym, arith}
+use Rattle.std.proofs.Common.{◌≡◌, ◌⊎◌, inl, inr, ℕ, zero, suc, ◌<◌, ◌≤◌, List, [], ◌∷◌, ◌++◌, length, map, take, drop, get_or, subst, sym, arith}
 use Rattle.std.specs.Prelude.{pos, Option, Some, None, All, MatchOption}
 use Rattle.std.specs.List.{AllByRecursion, AllZip, Any as AnyOf, slice_get}
+use Rattle.std.proofs.lemmas.List.Elements.{All-from_recursion}
 use Rattle.ak_script.specs.declared.script.Kind.{Kind}
 use Rattle.ak_script.specs.declared.script.Kind.TheVariants.{Num, Ivar, Def, Mon, Event}
 use Rattle.ak_script.specs.Kinds.{Serves}
@@ -11,11 +12,13 @@ use Rattle.ak_program.specs.declared.program.NumParam.{NumParam}
 use Rattle.ak_program.specs.declared.program.NumProc.{NumProc}
 use Rattle.ak_program.specs.declared.statement.NumAtom.{NumAtom}
 use Rattle.ak_program.specs.declared.statement.NumAtom.TheVariants.{Literal, Local}
-use Rattle.ak_program.specs.Programs.{local as used, number, returned, IsKnown, IsPassed, Takes, IsCallable}
-use Rattle.ak_machine.specs.Effect.{local, value_of, args_of}
+use Rattle.ak_program.specs.declared.statement.NumChoice.{NumChoice}
+use Rattle.ak_program.specs.Programs.{NumCallee, local as used, number, returned, IsKnown, IsPassed, Takes, IsCallable}
+use Rattle.ak_machine.specs.Effect.{local, name_of, name_in, value_of, args_of}
+use Rattle.ak_machine.specs.Statement.{choosable}
 use Rattle.ak_state.specs.Reads.{IsNum, IsNumAt, IsDeferred, IsMonitor, IsEvent, IsEventAt, IsBound, AreBound}
 use Rattle.ak_state.specs.Drawn.{Drawn}
-use Rattle.ak_state.specs.Fits.{ValueFits, ValsFit, kinds_of, CallFits}
+use Rattle.ak_state.specs.Fits.{ValueFits, ValsFit, kinds_of, CallFits, numbers, ChoosableFits}
 use Rattle.ak_exec.specs.Typed.{IsReturned}
 
 -- ---- kinds that serve
@@ -162,33 +165,93 @@ pub call_bound : (program : List NumProc) (n : Drawn) (kinds : List Kind) (vals 
     → IsCallable program kinds (record { place = proc; front = front; args = args }) → AreBound vals args
 call_bound program n kinds vals proc front args f h = call_bound_at (slice_get program proc) n kinds vals proc front args f h
 
-call_fits_at : (o : Option NumProc) (n : Drawn) (kinds : List Kind) (vals : List Value) (proc : ℕ) (args : List NumAtom) → ValsFit n kinds vals
-    → MatchOption o ⊥ (λ (p : NumProc). Takes kinds p.params (record { place = proc; front = 0; args = args }))
-    → MatchOption o ⊥ (λ (p : NumProc). ValsFit n (kinds_of p.params) (args_of vals args))
-call_fits_at None n kinds vals proc args f h = absurd h
-call_fits_at (Some p) n kinds vals proc args f h = args_fit n kinds vals args p.params f h.args
+-- a call with so many numbers in front of its arguments
+front_fits : (n : Drawn) (kinds : List Kind) (vals : List Value) (front : ℕ) (params : List NumParam) (args : List NumAtom) → ValsFit n kinds vals
+    → AllByRecursion (λ (param : NumParam). param.kind ≡ Num) (take front params) → front ≤ length params
+    → AllZip (IsPassed kinds) args (drop front params) → ValsFit n (kinds_of params) (numbers front ++ args_of vals args)
+front_fits n kinds vals zero params args f p e h = args_fit n kinds vals args params f h
+front_fits n kinds vals (suc front) [] args f p e h = absurd (omega (arith, e))
+front_fits n kinds vals (suc front) (param ∷ params) args f p e h = (
+  subst (λ k. ValueFits n k (value.Num (pos 0))) (sym p.0) tt,
+  front_fits n kinds vals front params args f p.1 (omega (arith, e)) h,
+)
+
+front_call_at : (o : Option NumProc) (n : Drawn) (kinds : List Kind) (vals : List Value) (proc front : ℕ) (args : List NumAtom) → ValsFit n kinds vals
+    → MatchOption o ⊥ (λ (p : NumProc). Takes kinds p.params (record { place = proc; front = front; args = args }))
+    → MatchOption o ⊥ (λ (p : NumProc). ValsFit n (kinds_of p.params) (numbers front ++ args_of vals args))
+front_call_at None n kinds vals proc front args f h = absurd h
+front_call_at (Some p) n kinds vals proc front args f h = front_fits n kinds vals front p.params args f h.front h.enough h.args
+
+pub front_call_fits : (program : List NumProc) (n : Drawn) (kinds : List Kind) (vals : List Value) (proc front : ℕ) (args : List NumAtom)
+    → ValsFit n kinds vals → IsCallable program kinds (record { place = proc; front = front; args = args })
+    → CallFits program n proc (numbers front ++ args_of vals args)
+front_call_fits program n kinds vals proc front args f h = front_call_at (slice_get program proc) n kinds vals proc front args f h
 
 -- a call with its arguments alone
 pub call_fits : (program : List NumProc) (n : Drawn) (kinds : List Kind) (vals : List Value) (proc : ℕ) (args : List NumAtom) → ValsFit n kinds vals
     → IsCallable program kinds (record { place = proc; front = 0; args = args }) → CallFits program n proc (args_of vals args)
-call_fits program n kinds vals proc args f h = call_fits_at (slice_get program proc) n kinds vals proc args f h
-
-first_fits : (n : Drawn) (kinds : List Kind) (vals : List Value) (proc : ℕ) (params : List NumParam) (args : List NumAtom) → ValsFit n kinds vals
-    → Takes kinds params (record { place = proc; front = 1; args = args }) → ValsFit n (kinds_of params) (value.Num (pos 0) ∷ args_of vals args)
-first_fits n kinds vals proc [] args f h = absurd (omega (arith, h.enough))
-first_fits n kinds vals proc (param ∷ params) args f h =
-    (subst (λ k. ValueFits n k (value.Num (pos 0))) (sym h.front.0) tt, args_fit n kinds vals args params f h.args)
-
-value_call_at : (o : Option NumProc) (n : Drawn) (kinds : List Kind) (vals : List Value) (proc : ℕ) (args : List NumAtom) → ValsFit n kinds vals
-    → MatchOption o ⊥ (λ (p : NumProc). Takes kinds p.params (record { place = proc; front = 1; args = args }))
-    → MatchOption o ⊥ (λ (p : NumProc). ValsFit n (kinds_of p.params) (value.Num (pos 0) ∷ args_of vals args))
-value_call_at None n kinds vals proc args f h = absurd h
-value_call_at (Some p) n kinds vals proc args f h = first_fits n kinds vals proc p.params args f h
+call_fits program n kinds vals proc args f h = front_call_fits program n kinds vals proc 0 args f h
 
 -- a call with a number in front of its arguments
 pub value_call_fits : (program : List NumProc) (n : Drawn) (kinds : List Kind) (vals : List Value) (proc : ℕ) (args : List NumAtom) → ValsFit n kinds vals
     → IsCallable program kinds (record { place = proc; front = 1; args = args }) → CallFits program n proc (value.Num (pos 0) ∷ args_of vals args)
-value_call_fits program n kinds vals proc args f h = value_call_at (slice_get program proc) n kinds vals proc args f h
+value_call_fits program n kinds vals proc args f h = front_call_fits program n kinds vals proc 1 args f h
+
+-- ---- lists of deferreds
+deferreds_at : (n : Drawn) (kinds : List Kind) (vals : List Value) (ds : List ℕ) → ValsFit n kinds vals
+    → AllByRecursion (IsKnown kinds) (map (λ d. used d Def) ds) → AllByRecursion (λ d. IsDeferred n.ivars (local vals d)) ds
+deferreds_at n kinds vals [] f h = tt
+deferreds_at n kinds vals (d ∷ ds) f h = (def_at n kinds vals d f h.0, deferreds_at n kinds vals ds f h.1)
+
+pub defs_at : (n : Drawn) (kinds : List Kind) (vals : List Value) (ds : List ℕ) → ValsFit n kinds vals
+    → AllByRecursion (IsKnown kinds) (map (λ d. used d Def) ds) → All (λ d. IsDeferred n.ivars (local vals d)) ds
+defs_at n kinds vals ds f h = All-from_recursion (λ d. IsDeferred n.ivars (local vals d)) ds (deferreds_at n kinds vals ds f h)
+
+deferred_name : (n : ℕ) (v : Value) → IsDeferred n v → name_of v < n
+deferred_name n (value.Ivar i) f = f
+deferred_name n (value.Def i) f = f
+deferred_name n v f = absurd f
+
+pub names_drawn : (n : Drawn) (kinds : List Kind) (vals : List Value) (ds : List ℕ) → ValsFit n kinds vals
+    → AllByRecursion (IsKnown kinds) (map (λ d. used d Def) ds) → AllByRecursion (λ i. i < n.ivars) (map (name_in vals) ds)
+names_drawn n kinds vals [] f h = tt
+names_drawn n kinds vals (d ∷ ds) f h = (deferred_name n.ivars (local vals d) (def_at n kinds vals d f h.0), names_drawn n kinds vals ds f h.1)
+
+-- and of choices
+choices_by : (n : Drawn) (kinds : List Kind) (vals : List Value) (choices : List NumChoice) → ValsFit n kinds vals
+    → AllByRecursion (IsKnown kinds) (map (λ (choice : NumChoice). used choice.d Def) choices)
+    → AllByRecursion (λ (choice : NumChoice). IsDeferred n.ivars (local vals choice.d)) choices
+choices_by n kinds vals [] f h = tt
+choices_by n kinds vals (choice ∷ choices) f h = (def_at n kinds vals choice.d f h.0, choices_by n kinds vals choices f h.1)
+
+pub choices_at : (n : Drawn) (kinds : List Kind) (vals : List Value) (choices : List NumChoice) → ValsFit n kinds vals
+    → AllByRecursion (IsKnown kinds) (map (λ (choice : NumChoice). used choice.d Def) choices)
+    → All (λ (choice : NumChoice). IsDeferred n.ivars (local vals choice.d)) choices
+choices_at n kinds vals choices f h =
+    All-from_recursion (λ (choice : NumChoice). IsDeferred n.ivars (local vals choice.d)) choices (choices_by n kinds vals choices f h)
+
+-- what the procedure of a choice takes
+abbrev pub callee_of : List NumAtom → NumChoice → NumCallee
+callee_of args choice = record { place = choice.proc; front = 1; args = args }
+
+-- a list of choices is not empty, and so the arguments are those of its first procedure
+pub choice_bound : (program : List NumProc) (n : Drawn) (kinds : List Kind) (vals : List Value) (choices : List NumChoice) (args : List NumAtom)
+    → ValsFit n kinds vals → 1 ≤ length choices → AllByRecursion (IsCallable program kinds) (map (callee_of args) choices) → AreBound vals args
+choice_bound program n kinds vals [] args f e h = absurd (omega (arith, e))
+choice_bound program n kinds vals (choice ∷ choices) args f e h = call_bound program n kinds vals choice.proc 1 args f h.0
+
+pub choices_fit : (program : List NumProc) (n : Drawn) (kinds : List Kind) (vals : List Value) (choices : List NumChoice) (args : List NumAtom)
+    → ValsFit n kinds vals → AllByRecursion (IsKnown kinds) (map (λ (choice : NumChoice). used choice.d Def) choices)
+    → AllByRecursion (IsCallable program kinds) (map (callee_of args) choices)
+    → AllByRecursion (ChoosableFits program n (args_of vals args)) (map (choosable vals) choices)
+choices_fit program n kinds vals [] args f h p = tt
+choices_fit program n kinds vals (choice ∷ choices) args f h p = (
+  record {
+    deferred = deferred_name n.ivars (local vals choice.d) (def_at n kinds vals choice.d f h.0);
+    call = value_call_fits program n kinds vals choice.proc args f p.0;
+  },
+  choices_fit program n kinds vals choices args f h.1 p.1,
+)
 
 -- ---- one more value
 pub vals_push : (n : Drawn) (kinds : List Kind) (vals : List Value) (kind : Kind) (v : Value) → ValsFit n kinds vals → ValueFits n kind v

@@ -6,7 +6,7 @@ use Rattle.ak_program.specs.declared.program.NumProc.{NumProc}
 use Rattle.ak_program.specs.declared.statement.NumStmt.{NumStmt}
 use Rattle.ak_program.specs.declared.statement.NumStmt.TheVariants as stmt
 
--- numbers, ivars, handlers, calls, yields, alarms, monitors and errors; not yet groups, throttles, pipes and works
+-- numbers, ivars, handlers, choices, calls, yields, alarms, monitors and errors; not yet throttles, pipes and works
 abbrev pub IsBuiltStmt : NumStmt → Type 0
 IsBuiltStmt (stmt.Set x a op b) = Unit {0}
 IsBuiltStmt (stmt.Print a) = Unit {0}
@@ -15,6 +15,9 @@ IsBuiltStmt (stmt.Fill i a) = Unit {0}
 IsBuiltStmt (stmt.Offer i a) = Unit {0}
 IsBuiltStmt (stmt.Upon d proc args) = Unit {0}
 IsBuiltStmt (stmt.Bind r d proc args) = Unit {0}
+IsBuiltStmt (stmt.All r ds proc args) = Unit {0}
+IsBuiltStmt (stmt.Any r ds) = Unit {0}
+IsBuiltStmt (stmt.Choose r choices args) = Unit {0}
 IsBuiltStmt (stmt.Sched proc args) = Unit {0}
 IsBuiltStmt (stmt.Low proc args) = Unit {0}
 IsBuiltStmt (stmt.Yield r) = Unit {0}

@@ -1,12 +1,12 @@
 -- What a statement needs of a job's values.
-use Rattle.std.specs.Prelude.{List, length, Option, Some, None}
+use Rattle.std.specs.Prelude.{◌≤◌, List, length, Option, Some, None}
 use Rattle.ak_frames.specs.declared.value.Value.{Value}
 use Rattle.ak_program.specs.declared.program.NumPrefix.{NumPrefix}
 use Rattle.ak_program.specs.declared.program.NumPrefix.TheVariants.{If, Unless}
 use Rattle.ak_program.specs.declared.statement.NumStmt.{NumStmt}
 use Rattle.ak_program.specs.declared.statement.NumStmt.TheVariants as stmt
 use Rattle.ak_machine.specs.State.{State}
-use Rattle.ak_state.specs.Reads.{IsNumAt, IsDeferredAt, IsMonitorAt, IsEventAt, IsBound, AreBound}
+use Rattle.ak_state.specs.Reads.{IsNumAt, IsDeferredAt, AreDeferredsAt, AreChoicesAt, IsMonitorAt, IsEventAt, IsBound, AreBound}
 
 -- the number of a prefix
 abbrev pub IsTold : List Value → Option NumPrefix → Type 0
@@ -23,6 +23,9 @@ IsReady s vals (stmt.Fill i a) = IsDeferredAt s vals i × IsNumAt vals a
 IsReady s vals (stmt.Offer i a) = IsDeferredAt s vals i × IsNumAt vals a
 IsReady s vals (stmt.Upon d proc args) = IsDeferredAt s vals d × AreBound vals args
 IsReady s vals (stmt.Bind r d proc args) = IsDeferredAt s vals d × AreBound vals args
+IsReady s vals (stmt.All r ds proc args) = (length ds ≤ 8) × AreDeferredsAt s vals ds × AreBound vals args
+IsReady s vals (stmt.Any r ds) = AreDeferredsAt s vals ds
+IsReady s vals (stmt.Choose r choices args) = AreChoicesAt s vals choices × AreBound vals args
 IsReady s vals (stmt.Sched proc args) = AreBound vals args
 IsReady s vals (stmt.Low proc args) = AreBound vals args
 IsReady s vals (stmt.Yield r) = Unit {0}

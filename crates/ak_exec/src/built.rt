@@ -44,6 +44,9 @@ fn is_built(stmt: &NumStmt) -> bool
             | NumStmt::Offer { .. }
             | NumStmt::Upon { .. }
             | NumStmt::Bind { .. }
+            | NumStmt::All { .. }
+            | NumStmt::Any { .. }
+            | NumStmt::Choose { .. }
             | NumStmt::Sched { .. }
             | NumStmt::Low { .. }
             | NumStmt::Yield { .. }

@@ -8,7 +8,7 @@ ghost use Rattle.ak_exec.specs.Steps.{Does};
 
 use crate::statements::alarms::{abort, after, event, tick, yield_cycle};
 use crate::statements::deferred::{bind, fill, ivar, never, offer, upon};
-use crate::statements::groups::try_body;
+use crate::statements::groups::{all, any, choose, try_body};
 use crate::statements::jobs::{call, raise, ret};
 use crate::statements::monitors::{detach, monitor, next_error, on_error, send, within};
 use crate::statements::values::{print, set};
@@ -50,6 +50,14 @@ pub fn run_statement(
         NumStmt::Offer { i, a } => offer(parts, ctx, vals, *i, *a),
         NumStmt::Upon { d, proc, args } => upon(parts, ctx, vals, *d, *proc, args),
         NumStmt::Bind { r, d, proc, args } => { bind(parts, ctx, vals, *r, *d, *proc, args) }
+        NumStmt::All {
+            r,
+            deferreds,
+            proc,
+            args,
+        } => all(parts, ctx, vals, *r, deferreds, *proc, args),
+        NumStmt::Any { r, deferreds } => any(parts, ctx, vals, *r, deferreds),
+        NumStmt::Choose { r, choices, args } => choose(parts, ctx, vals, *r, choices, args),
         NumStmt::Sched { proc, args } => {
             call(parts, Ctx { low: false, ..ctx }, vals, *proc, args)
         }

@@ -1,7 +1,7 @@
 //! Statements that are decided once.
 
-ghost use Rattle.std.specs.Prelude.{◌<◌, length, IfOk};
-ghost use Rattle.ak_state.specs.Reads.{named, AreBound};
+ghost use Rattle.std.specs.Prelude.{◌<◌, ◌≤◌, length, IfOk};
+ghost use Rattle.ak_state.specs.Reads.{named, AreDeferredsAt, AreChoicesAt, AreBound};
 ghost use Rattle.ak_exec.specs.Steps.{Does};
 
 use crate::statement::Step;
@@ -9,9 +9,78 @@ use ak_base::list::NoMemory;
 use ak_base::number::Ctx;
 use ak_frames::value::{Vals, Value};
 use ak_machine::held::Callback;
-use ak_program::statement::{NumArgs, NumStmt};
+use ak_program::statement::{NumArgs, NumChoices, NumStmt, Places};
 use ak_script::statement::GuardMode;
 use ak_state::parts::Parts;
+
+pub fn all(
+    parts: &mut Parts,
+    ctx: Ctx,
+    vals: &mut Vals,
+    r: usize,
+    deferreds: &Places,
+    proc: usize,
+    args: &NumArgs,
+) -> Result<Step, NoMemory>
+    requires few { length deferreds.now ≤ 8 }
+    requires deferreds { AreDeferredsAt parts.old.plain (named parts.old vals.old) deferreds.now }
+    requires args { AreBound (named parts.old vals.old) args.now }
+    ensures { IfOk result (λ step.
+        Does ctx (NumStmt.All r deferreds.now proc args.now) parts.old vals.old
+        step parts.new vals.new) }
+{
+    let ivars = parts.deferreds_at(vals, deferreds)?;
+    let values = parts.args_at(vals, args)?;
+    let result = parts.fresh()?;
+    let call = Callback {
+        proc,
+        vals: values,
+        to: result,
+    };
+    parts.begin_all(&ctx, ivars.as_slice(), call)?;
+    vals.push(Value::Def(result))?;
+    Ok(Step::Goes)
+}
+
+pub fn any(
+    parts: &mut Parts,
+    ctx: Ctx,
+    vals: &mut Vals,
+    r: usize,
+    deferreds: &Places,
+) -> Result<Step, NoMemory>
+    requires { AreDeferredsAt parts.old.plain (named parts.old vals.old) deferreds.now }
+    ensures { IfOk result (λ step.
+        Does ctx (NumStmt.Any r deferreds.now) parts.old vals.old step parts.new vals.new) }
+{
+    let ivars = parts.deferreds_at(vals, deferreds)?;
+    let result = parts.fresh()?;
+    parts.begin_any(&ctx, ivars, result)?;
+    vals.push(Value::Def(result))?;
+    Ok(Step::Goes)
+}
+
+pub fn choose(
+    parts: &mut Parts,
+    ctx: Ctx,
+    vals: &mut Vals,
+    r: usize,
+    choices: &NumChoices,
+    args: &NumArgs,
+) -> Result<Step, NoMemory>
+    requires choices { AreChoicesAt parts.old.plain (named parts.old vals.old) choices.now }
+    requires args { AreBound (named parts.old vals.old) args.now }
+    ensures { IfOk result (λ step.
+        Does ctx (NumStmt.Choose r choices.now args.now) parts.old vals.old
+        step parts.new vals.new) }
+{
+    let all = parts.choices_at(vals, choices)?;
+    let values = parts.args_at(vals, args)?;
+    let result = parts.fresh()?;
+    parts.begin_choice(&ctx, all, values, result)?;
+    vals.push(Value::Def(result))?;
+    Ok(Step::Goes)
+}
 
 pub fn try_body(
     parts: &mut Parts,
