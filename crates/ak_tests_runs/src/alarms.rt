@@ -4,7 +4,14 @@ use crate::commands::{Case, first_wrong};
 use ak_base::list::NoMemory;
 use ak_top::status::Status;
 
-const RUNS: [Case; 7] = [
+const RUNS: [Case; 8] = [
+    Case {
+        name: "alarms of one time, of which one is aborted, and a tick that would go back",
+        words: &["run"],
+        script: "proc main; after p 5; event e q 5; event f s 5; upon p O 1; upon q O 2; upon s O 3; abort e; tick 5; tick 0; monitor m; detach m; within m T; end; proc T; tick -1; end; proc O v:num w:num; print w; print v; end",
+        status: Status::Done,
+        output: "enq 0 normal; cycle; job 0; fill 1 1; enq 1 normal; monitor 1 0; detach 1; enq 2 normal; job 1; print 2; print 1; job 2; error -9 1; caught 1; cycle; fill 0 0; enq 3 normal; fill 2 0; enq 4 normal; job 3; print 1; print 0; job 4; print 3; print 0; end idle; %pool; idle 7; close",
+    },
     Case {
         name: "alarms that are due, one in the past among them, and one whose time does not come",
         words: &["run"],

@@ -441,6 +441,41 @@ fn a_run_without_an_end_meets_its_limit(rt: HostRuntime) -> Result<(), NoMemory>
     Ok(())
 }
 
+// The output of a thousand binds, each behind a yield of its own.
+fn thousand_binds(alloc: Global) -> Result<Vec<u8>, NoMemory> {
+    let mut bytes = lines(alloc, "enq 0 normal; cycle; job 0")?;
+    for k in 0..1000u32 {
+        let text = format!(in alloc;
+            "cycle; fill {} 0; enq {} normal; job {}; join 1 {}",
+            2 * k,
+            k + 1,
+            k + 1,
+            2 * k + 3
+        )?;
+        bytes.extend_from_slice(lines(alloc, text.as_str())?.as_slice())?;
+    }
+    let last = lines(
+        alloc,
+        "cycle; fill 2000 0; enq 1001 normal; job 1001; fill 1 77; enq 1002 normal; job 1002; print 77; end idle; %pool; idle 2005; close",
+    )?;
+    bytes.extend_from_slice(last.as_slice())?;
+    Ok(bytes)
+}
+
+#[test]
+fn a_thousand_binds_take_a_thousand_and_two_cycles(rt: HostRuntime) -> Result<(), NoMemory> {
+    let alloc = rt.alloc();
+    let script = lines(
+        alloc,
+        "proc main; yield y; bind r y S 1000; upon r O; end; proc S v:num n:num; set m n - 1; unless n ret 77; yield y; bind r y S m; ret r; end; proc O v:num; print v; end",
+    )?;
+    let (status, taken) = command_gives(&rt, alloc, &["run"], script)?;
+    let wanted = thousand_binds(alloc)?;
+    assert_eq!(rt; status, Status::Done);
+    assert!(rt; taken.as_slice() == wanted.as_slice());
+    Ok(())
+}
+
 #[test]
 fn each_failing_read_writes_nothing(rt: HostRuntime) -> Result<(), NoMemory> {
     let alloc = rt.alloc();
