@@ -8,6 +8,7 @@ use Rattle.std.proofs.lemmas.List.Elements.{filter_map-append}
 use Rattle.ak_labor.specs.declared.ask.Ask.{Ask}
 use Rattle.ak_labor.specs.declared.config.Config.{Config}
 use Rattle.ak_labor.specs.Calls.{IsFault}
+use Rattle.ak_labor.specs.Waits.{outstanding}
 use Rattle.ak_trace.specs.declared.entry.Entry.{Entry}
 use Rattle.ak_history.specs.declared.event.Event.{Event}
 use Rattle.ak_history.specs.declared.event.Event.TheVariants as event
@@ -18,10 +19,12 @@ use Rattle.ak_program.specs.Programs.{NumProgram}
 use Rattle.ak_machine.specs.Run.{Run, HasEnded, run_of}
 use Rattle.ak_history_laws.specs.Behind.{IsNotByScheduler, Behind}
 use Rattle.ak_history_laws.proofs.Helpers.{alike}
+use Rattle.ak_history_laws.specs.Once.{StartOnce}
 use Rattle.ak_history_laws.proofs.Legals.{legal_front, legal_behind}
+use Rattle.ak_history_laws.proofs.Once.{start_once}
 use Rattle.ak_history_laws.proofs.Owed.{calls_behind, closed_now}
 use Rattle.ak_history_laws.proofs.Replies.{replies_more}
-use Rattle.ak_cycle.specs.Runs.{HasEndedWith, WantsLast, EndsClosed}
+use Rattle.ak_cycle.specs.Runs.{HasEndedWith, WantsLast, EndsClosed, EndsIdle}
 use Rattle.ak_meets.specs.Calls.{WantsBehind, EndsWith, HasCalled, AllFit}
 use Rattle.ak_meets.specs.Meets.{sched, wanted, wanted_at, Agree, Meeting, Yes, Stray, Short, Meets}
 use Rattle.ak_replay.specs.Replays.{ReplayState, Recording, recording_of, passed_by, with_missed, asked_of, replied_of, IsOther, DepartsBy}
@@ -140,12 +143,13 @@ pub record EndsTogether (program : NumProgram) (config : Config) (history : List
   pub ended : (run_of program config (replies config.askers history)).outcome ≡ HasEnded
   pub trace_is : (run_of program config (replies config.askers history)).trace ≡ trace
   pub asks_are : (run_of program config (replies config.askers history)).asks ≡ asks history
+  pub once : StartOnce trace history
 
 pub ends_together : (program : NumProgram) (config : Config) (history : List Event) (s : ReplayState) (trace : List Entry) (waits : List ℕ)
     → CallsOver program config history → Legal config.threads config.askers history → recording_of s ≡ recorded config history
     → HasEndedWith (run_of program config (replied_of s)) trace (asked_of s) waits → EndsClosed (asked_of s)
-    → EndsTogether program config history trace
-ends_together program config history s trace waits law legal named ends closed =
+    → (EndsIdle trace → outstanding (asked_of s) (replied_of s) ≡ []) → EndsTogether program config history trace
+ends_together program config history s trace waits law legal named ends closed idle =
     of (law k p.room (λ wrong. absurd (cc (sym (ap (λ (r : Run). r.outcome) at) ∙ wrong, ends.ended))))
   where
     xs : List Event
@@ -199,6 +203,9 @@ ends_together program config history s trace waits law legal named ends closed =
               ended = ap (λ (r : Run). r.outcome) over ∙ ends.ended;
               trace_is = ap (λ (r : Run). r.trace) over ∙ ends.trace_is;
               asks_are = ap (λ (r : Run). r.asks) over ∙ (ends.asks_are ∙ (asked ∙ sym both.0));
+              once = start_once config.threads config.askers trace history legal (λ before is.
+                ap (λ l. outstanding l (replies config.askers history)) (both.0 ∙ sym asked)
+                ∙ (ap (outstanding (asked_of s)) (both.1 ∙ sym r.answers) ∙ idle (before, is)));
             }
 
 -- ---- the run departs from the record

@@ -4,6 +4,7 @@ use Rattle.ak_labor.specs.declared.config.Config.{Config}
 use Rattle.ak_trace.specs.declared.entry.Entry.{Entry}
 use Rattle.ak_history.specs.declared.event.Event.{Event}
 use Rattle.ak_history.specs.Scheduler.{asks, replies}
+use Rattle.ak_history_laws.specs.Once.{StartOnce}
 use Rattle.ak_program.specs.Programs.{NumProgram}
 use Rattle.ak_machine.specs.Run.{Run, HasEnded, run_of}
 use Rattle.ak_machine.specs.Status.{status_of}
@@ -21,12 +22,14 @@ abbrev pub run_over : NumProgram → Config → List Event → Run
 run_over program config history = run_of program config (replies config.askers history)
 
 -- The run and the record go together to the run's end. The trace is the machine's for the replies of the record, whose calls are
--- those that the machine makes. It has its end, and obeys the laws of traces.
+-- those that the machine makes. Each work is begun at most once, and exactly once where the run ended idle. The trace has its
+-- end, and obeys the laws of traces.
 pub record IsRerun (program : NumProgram) (config : Config) (history : List Event) (trace : List Entry) : Type 0 where
   pub meets : Meets program config history Yes
   pub ended : (run_over program config history).outcome ≡ HasEnded
   pub trace_is : (run_over program config history).trace ≡ trace
   pub asks_are : (run_over program config history).asks ≡ asks history
+  pub once : StartOnce trace history
   pub finished : IsFinished (status_of trace)
   pub laws : ObeysLaws config.limit trace
 

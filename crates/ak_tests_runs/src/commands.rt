@@ -2,6 +2,8 @@
 
 use ak_base::list::{Items, NoMemory, Word};
 use ak_base::memory::{MemSink, MemSource};
+use ak_history::event::Event;
+use ak_labor::ask::Ask;
 use ak_labor::labor::plain_hands;
 use ak_top::check::check_words;
 use ak_top::status::{Status, message};
@@ -73,7 +75,14 @@ fn faulty_run_gives<R: Threads + Wait + Sync>(
     outcome(rt, alloc, &["run"], source, sink)
 }
 
+// Whether two statuses are told alike: their messages name each but the call and the event of a departure.
+fn is_alike(alloc: Global, status: &Status, wanted: &Status) -> Result<bool, NoMemory> {
+    let told = message(alloc, status)?;
+    Ok(told.as_slice() == message(alloc, wanted)?.as_slice())
+}
+
 /// A command: what it shows, its words, the script, the status and the output.
+#[derive(Drop)]
 pub struct Case {
     pub name: &'static str,
     pub words: &'static [&'static str],
@@ -91,7 +100,7 @@ pub fn first_wrong<R: Threads + Wait + Sync>(
     for case in cases {
         let (status, taken) = command_gives(rt, alloc, case.words, lines(alloc, case.script)?)?;
         let wanted = lines(alloc, case.output)?;
-        if status != case.status || taken.as_slice() != wanted.as_slice() {
+        if !is_alike(alloc, &status, &case.status)? || taken.as_slice() != wanted.as_slice() {
             return Ok(Some(case.name));
         }
     }
@@ -408,12 +417,12 @@ fn long_scripts_are_refused(rt: HostRuntime) -> Result<(), NoMemory> {
     }
     statements.extend_from_slice(b"end\n")?;
     let (status, taken) = command_gives(&rt, alloc, &["check"], statements)?;
-    assert_eq!(rt; status, refused(66, 3));
+    assert!(rt; is_alike(alloc, &status, &refused(66, 3))?);
     assert!(rt; taken.is_empty());
     for (size, line, kind) in [(1_048_576, 0, 5), (1_048_577, 0, 2)] {
         let text = vec![in alloc; b'#'; size]?;
         let (status, taken) = command_gives(&rt, alloc, &["check"], text)?;
-        assert_eq!(rt; status, refused(line, kind));
+        assert!(rt; is_alike(alloc, &status, &refused(line, kind))?);
         assert!(rt; taken.is_empty());
     }
     Ok(())
@@ -435,7 +444,7 @@ fn a_run_without_an_end_meets_its_limit(rt: HostRuntime) -> Result<(), NoMemory>
         alloc,
         "job 99999; enq 100000 normal; cycle; end jobs; %pool; idle 100201; close",
     )?;
-    assert_eq!(rt; status, Status::Jobs);
+    assert!(rt; is_alike(alloc, &status, &Status::Jobs)?);
     assert!(rt; taken.starts_with(first.as_slice()));
     assert!(rt; taken.ends_with(last.as_slice()));
     Ok(())
@@ -482,7 +491,7 @@ fn each_failing_read_writes_nothing(rt: HostRuntime) -> Result<(), NoMemory> {
     for call in 0..23 {
         let failing = vec![in alloc; call]?;
         let (status, taken) = faulty_run_gives(&rt, alloc, failing, Vec::new(alloc))?;
-        assert_eq!(rt; status, Status::ReadFault);
+        assert!(rt; is_alike(alloc, &status, &Status::ReadFault)?);
         assert!(rt; taken.is_empty());
     }
     Ok(())
@@ -495,7 +504,7 @@ fn each_failing_write_leaves_a_beginning(rt: HostRuntime) -> Result<(), NoMemory
     for call in 0..61u32 {
         let failing = vec![in alloc; call]?;
         let (status, taken) = faulty_run_gives(&rt, alloc, Vec::new(alloc), failing)?;
-        assert_eq!(rt; status, Status::WriteFault);
+        assert!(rt; is_alike(alloc, &status, &Status::WriteFault)?);
         assert_eq!(rt;
             Some(taken.as_slice()),
             output.as_slice().get(..call as usize)
@@ -516,6 +525,16 @@ fn messages_are_told(rt: HostRuntime) -> Result<(), NoMemory> {
         (Status::WriteFault, "write fault"),
         (Status::Jobs, "job limit reached"),
         (Status::NoMemory, "no memory"),
+        (Status::BadHistory { line: 31 }, "history line 31"),
+        (
+            Status::Stray {
+                place: 3,
+                asked: Ask::Drain,
+                kept: Event::Close,
+            },
+            "history differs at event 3",
+        ),
+        (Status::Short { asked: Ask::Close }, "history ends too soon"),
         (Status::Stuck, "stuck: all threads are reserved"),
     ];
     for (status, text) in cases {
@@ -532,7 +551,7 @@ fn a_script_is_tested_without_threads(rt: HostRuntime) -> Result<(), NoMemory> {
     let mut source = MemSource::make(lines(alloc, "proc main; end")?, 4096, Vec::new(alloc));
     let mut sink = MemSink::make(alloc, 100, 100, Vec::new(alloc))?;
     let report = check_words(alloc, words.as_slice(), &mut source, &mut sink);
-    assert_eq!(rt; report.status, Status::Done);
+    assert!(rt; is_alike(alloc, &report.status, &Status::Done)?);
     assert_eq!(rt; sink.taken(), b"valid\n".as_slice());
     Ok(())
 }

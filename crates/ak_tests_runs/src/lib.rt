@@ -18,6 +18,8 @@ mod hubs;
 #[cfg(test)]
 mod meeting;
 #[cfg(test)]
+mod replays;
+#[cfg(test)]
 mod turns;
 #[cfg(test)]
 mod works;

@@ -5,7 +5,7 @@ use Rattle.ak_history.specs.declared.event.Event.{Event}
 use Rattle.ak_machine.specs.Status.{Stat, status_of}
 use Rattle.ak_words.specs.declared.command.Command.{Command}
 use Rattle.ak_top.specs.declared.status.Status.{Status}
-use Rattle.ak_top.specs.declared.status.Status.TheVariants.{Done, Unhandled, Usage, Refused, ReadFault, WriteFault, Jobs, NoMemory, Stuck}
+use Rattle.ak_top.specs.declared.status.Status.TheVariants.{Done, Unhandled, Usage, Refused, ReadFault, WriteFault, Jobs, NoMemory, BadHistory, Stray, Short, Stuck}
 use Rattle.ak_top.specs.declared.status.Report.{Report}
 use Rattle.ak_top.specs.declared.stop.Stop.{Stop}
 use Rattle.ak_top.specs.declared.stop.Stop.TheVariants as stop
@@ -25,6 +25,9 @@ module _ {L : Type 0} (carried : L → ℕ) (old new : List L) where
   after_carried history WriteFault c h = h
   after_carried history Jobs c h = h
   after_carried history NoMemory c h = absurd (cc (c))
+  after_carried history (BadHistory line) c h = absurd (cc (c))
+  after_carried history (Stray place asked kept) c h = absurd (cc (c))
+  after_carried history (Short asked) c h = absurd (cc (c))
   after_carried history Stuck c h = h
 
   pub after_run : (r : Report) (trace : List Entry) (history : List Event) → r.history ≡ history

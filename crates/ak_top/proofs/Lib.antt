@@ -1,6 +1,7 @@
 mod Headlines
 mod Hands
 mod Loading
+mod Replaying
 mod Reporting
 mod Sources
 mod Usages

@@ -9,13 +9,13 @@ use Rattle.ak_machine.specs.Status as stat
 use Rattle.ak_words.specs.declared.command.Command.{Command}
 use Rattle.ak_words.specs.declared.command.Command.TheVariants.{Run, Check}
 use Rattle.ak_top.specs.declared.status.Status.{Status}
-use Rattle.ak_top.specs.declared.status.Status.TheVariants.{Done, Unhandled, Usage, Refused, ReadFault, WriteFault, Jobs, NoMemory, Stuck}
+use Rattle.ak_top.specs.declared.status.Status.TheVariants.{Done, Unhandled, Usage, Refused, ReadFault, WriteFault, Jobs, NoMemory, BadHistory, Stray, Short, Stuck}
 use Rattle.ak_top.specs.declared.status.Report.{Report}
 use Rattle.ak_top.specs.declared.stop.Stop.{Stop}
 use Rattle.ak_top.specs.declared.stop.Stop.TheVariants as stop
 use Rattle.ak_top.specs.Headline.{IsRun, IsValidSource}
 use Rattle.ak_top.specs.Refusals.{IsRefused, TellsFault, TellsScript}
-use Rattle.ak_top.specs.Reports.{is_carried_out, Shows, IsRefusal, IsNoRefusal, IsVerdict, ReportsRun, ReportsCheck}
+use Rattle.ak_top.specs.Reports.{is_carried_out, Shows, IsRefusal, IsNoRefusal, IsOfRun, IsVerdict, ReportsRun, ReportsCheck}
 use Rattle.ak_top.specs.Status.{IsStatusOf}
 use Rattle.ak_top.specs.Stops.{status_at, IsStop, IsTheRefusal, IsNoRefusal as IsNoStop}
 
@@ -43,6 +43,9 @@ no_refusal ReadFault c = tt
 no_refusal WriteFault c = tt
 no_refusal Jobs c = tt
 no_refusal NoMemory c = tt
+no_refusal (BadHistory line) c = absurd (cc (c))
+no_refusal (Stray place asked kept) c = absurd (cc (c))
+no_refusal (Short asked) c = absurd (cc (c))
 no_refusal Stuck c = tt
 
 not_refused : (s : Status) (line kind : ℕ) → is_carried_out s ≡ true → s ≡ Refused line kind → ⊥
@@ -56,9 +59,23 @@ pub carried : (s : Status) (t : Stat) → IsStatusOf t s ⊎ (s ≡ WriteFault) 
 carried s t (inl e) = carried_by t s e
 carried s t (inr e) = ap is_carried_out e
 
-shown : (s : Status) (t : Stat) → IsStatusOf t s ⊎ (s ≡ WriteFault) → Shows s t
+pub shown : (s : Status) (t : Stat) → IsStatusOf t s ⊎ (s ≡ WriteFault) → Shows s t
 shown s t (inl e) = shows_by t s e
 shown s t (inr e) = subst (λ x. Shows x t) (sym e) tt
+
+of_run : (s : Status) → is_carried_out s ≡ true → IsOfRun s
+of_run Done c = tt
+of_run (Unhandled num) c = tt
+of_run (Usage place) c = tt
+of_run (Refused line kind) c = tt
+of_run ReadFault c = tt
+of_run WriteFault c = tt
+of_run Jobs c = tt
+of_run NoMemory c = tt
+of_run (BadHistory line) c = absurd (cc (c))
+of_run (Stray place asked kept) c = absurd (cc (c))
+of_run (Short asked) c = absurd (cc (c))
+of_run Stuck c = tt
 
 pub run_reports : (config : Config) (told : Option (List ℕ)) (r : Report) (trace : List Entry) (history : List Event) → r.trace ≡ trace → r.history ≡ history
     → IsStatusOf (status_of trace) r.status ⊎ (r.status ≡ WriteFault)
@@ -66,6 +83,7 @@ pub run_reports : (config : Config) (told : Option (List ℕ)) (r : Report) (tra
 run_reports config told r trace history t h s is none =
     let c = carried r.status (status_of trace) s
     in record {
+      of_run = of_run r.status c;
       run = λ e. subst (λ x. IsRun config told x r.history) (sym t) (subst (λ x. IsRun config told trace x) (sym h) is);
       shows = subst (λ x. Shows r.status (status_of x)) (sym t) (shown r.status (status_of trace) s);
       bare = λ e. absurd (not_both r.status c e);
@@ -86,6 +104,7 @@ run_stops : (config : Config) (told : Option (List ℕ)) (before now : ℕ) (s :
     → ((line kind : ℕ) → TellsFault (Run config) told line kind → IsTheRefusal line kind s) → (TellsScript (Run config) told → IsNoStop s)
     → ReportsRun config told (bare_report (status_at s))
 run_stops config told before now stop.ReadFault is refuses accepts = record {
+  of_run = tt;
   run = λ e. absurd (cc (e));
   shows = tt;
   bare = λ e. (refl, refl);
@@ -94,6 +113,7 @@ run_stops config told before now stop.ReadFault is refuses accepts = record {
   completes = λ x. tt;
 }
 run_stops config told before now (stop.Refused line kind) is refuses accepts = record {
+  of_run = tt;
   run = λ e. absurd (cc (e));
   shows = tt;
   bare = λ e. (refl, refl);
@@ -102,6 +122,7 @@ run_stops config told before now (stop.Refused line kind) is refuses accepts = r
   completes = λ x. accepts x;
 }
 run_stops config told before now stop.NoMemory is refuses accepts = record {
+  of_run = tt;
   run = λ e. absurd (cc (e));
   shows = tt;
   bare = λ e. (refl, refl);

@@ -8,19 +8,19 @@ use Rattle.ak_syntax.specs.declared.refusal.GrammarKind.{GrammarKind}
 use Rattle.ak_syntax.specs.declared.refusal.GrammarKind.TheVariants.{TooLong}
 use Rattle.ak_syntax.specs.Faults.{GrammarFault, kind_number}
 use Rattle.ak_words.specs.declared.command.Command.{Command}
-use Rattle.ak_words.specs.declared.command.Command.TheVariants.{Run, Check}
+use Rattle.ak_words.specs.declared.command.Command.TheVariants.{Run, Replay, Check}
 use Rattle.ak_top.specs.declared.reading.Text.{Text}
 use Rattle.ak_top.specs.declared.reading.Text.TheVariants as text
 use Rattle.ak_top.specs.declared.stop.Stop.{Stop}
 use Rattle.ak_top.specs.declared.stop.Stop.TheVariants.{ReadFault, Refused, NoMemory}
 use Rattle.ak_top.specs.Headline.{IsScript}
-use Rattle.ak_top.specs.Reading.{script_limit, Had, Began, WasRead, IsRead, read_bytes}
+use Rattle.ak_top.specs.Reading.{script_limit, Had, Began, WasReadTo, WasRead, IsRead, read_bytes}
 use Rattle.ak_top.specs.Refusals.{ScriptFault, Unbuilt, FaultFor, IsRefused, TellsFault, TellsScript}
 use Rattle.ak_top.specs.Stops.{StopsFor, IsStop, Refuses, Accepts}
 
-pub was_read : (told : Option (List ℕ)) (t : Text) → IsRead told t → WasRead told (read_bytes t)
-was_read told (text.Whole bytes) h = inl h
-was_read told (text.TooLong bytes) h = inr h
+pub was_read : (limit : ℕ) (told : Option (List ℕ)) (t : Text) → IsRead limit told t → WasReadTo limit told (read_bytes t)
+was_read limit told (text.Whole bytes) h = inl h
+was_read limit told (text.TooLong bytes) h = inr h
 
 -- ---- more bytes than a script may have
 too_many : (bytes all : List ℕ) → (more : List ℕ) × (all ≡ bytes ++ more) → script_limit < length bytes → script_limit < length all
@@ -36,6 +36,8 @@ long_fault_for : (command : Command) (bytes all : List ℕ) (line kind : ℕ) �
     → FaultFor command all line kind → FaultFor command bytes line kind
 long_fault_for (Run config) bytes all line kind few many (inl f) = inl (long_fault bytes all line kind few many f)
 long_fault_for (Run config) bytes all line kind few many (inr u) = absurd (omega (arith, u.is_script.reads.size, many))
+long_fault_for (Replay config) bytes all line kind few many (inl f) = inl (long_fault bytes all line kind few many f)
+long_fault_for (Replay config) bytes all line kind few many (inr u) = absurd (omega (arith, u.is_script.reads.size, many))
 long_fault_for Check bytes all line kind few many f = long_fault bytes all line kind few many f
 
 -- the fault of what a source tells is that of what was read

@@ -5,7 +5,7 @@ use Rattle.ak_words.specs.declared.command.Command.{Command}
 use Rattle.ak_words.specs.declared.command.Command.TheVariants as command
 use Rattle.ak_crew.specs.Crews.{AreCounted}
 use Rattle.ak_top.specs.declared.status.Status.{Status}
-use Rattle.ak_top.specs.declared.status.Status.TheVariants.{Done, Unhandled, Usage, Refused, ReadFault, WriteFault, Jobs, NoMemory, Stuck}
+use Rattle.ak_top.specs.declared.status.Status.TheVariants.{Done, Unhandled, Usage, Refused, ReadFault, WriteFault, Jobs, NoMemory, BadHistory, Stray, Short, Stuck}
 use Rattle.ak_top.specs.declared.status.Report.{Report}
 use Rattle.ak_top.specs.declared.stop.Stop.{Stop}
 use Rattle.ak_top.specs.declared.stop.Stop.TheVariants as stop
@@ -30,9 +30,13 @@ AreAfterRun carried old new history ReadFault = new ≡ old
 AreAfterRun carried old new history WriteFault = HaveCarried carried old new history
 AreAfterRun carried old new history Jobs = HaveCarried carried old new history
 AreAfterRun carried old new history NoMemory = Unit {0}
+AreAfterRun carried old new history (BadHistory line) = new ≡ old
+AreAfterRun carried old new history (Stray place asked kept) = new ≡ old
+AreAfterRun carried old new history (Short asked) = new ≡ old
 AreAfterRun carried old new history Stuck = HaveCarried carried old new history
 
 -- the hands after a command
 abbrev pub AreAfter : {L : Type 0} → (L → ℕ) → List L → List L → Command → Report → Type 0
 AreAfter carried old new (command.Run config) report = AreAfterRun carried old new report.history report.status
+AreAfter carried old new (command.Replay config) report = new ≡ old
 AreAfter carried old new command.Check report = new ≡ old

@@ -1,7 +1,9 @@
 pub mod Headline
+pub mod Commands
 pub mod Hands
 pub mod Output
 pub mod Reading
+pub mod Replays
 pub mod Reports
 pub mod Status
 pub mod Stops

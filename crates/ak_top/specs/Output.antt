@@ -6,7 +6,7 @@ use Rattle.ak_trace.specs.Text.{trace_text}
 use Rattle.ak_history.specs.declared.event.Event.{Event}
 use Rattle.ak_history.specs.Text.{history_text}
 use Rattle.ak_words.specs.declared.command.Command.{Command}
-use Rattle.ak_words.specs.declared.command.Command.TheVariants.{Run, Check}
+use Rattle.ak_words.specs.declared.command.Command.TheVariants.{Run, Replay, Check}
 
 -- the line between the trace and the history
 abbrev pub pool_line : List ℕ
@@ -23,4 +23,5 @@ valid_line = line_text (codes "valid" ∷ [])
 -- the output of a command
 abbrev pub output_of : Command → List Entry → List Event → List ℕ
 output_of (Run config) trace history = output trace history
+output_of (Replay config) trace history = output trace history
 output_of Check trace history = valid_line

@@ -18,14 +18,18 @@ Had told bytes = IfSome told (λ all. all ≡ bytes)
 abbrev pub Began : Option (List ℕ) → List ℕ → Type 0
 Began told bytes = IfSome told (λ all. (more : List ℕ) × (all ≡ bytes ++ more))
 
--- these bytes of a source were read: all of it, or more than a script may have
-abbrev pub WasRead : Option (List ℕ) → List ℕ → Type 0
-WasRead told bytes = (Had told bytes × (length bytes ≤ script_limit)) ⊎ (Began told bytes × (script_limit < length bytes))
+-- these bytes of a source were read: all of it, or more than the limit
+abbrev pub WasReadTo : ℕ → Option (List ℕ) → List ℕ → Type 0
+WasReadTo limit told bytes = (Had told bytes × (length bytes ≤ limit)) ⊎ (Began told bytes × (limit < length bytes))
 
--- what was read is all that the source had, or too many bytes
-abbrev pub IsRead : Option (List ℕ) → Text → Type 0
-IsRead told (Whole bytes) = Had told bytes.items × (length bytes.items ≤ script_limit)
-IsRead told (TooLong bytes) = Began told bytes.items × (script_limit < length bytes.items)
+-- the same of a script
+abbrev pub WasRead : Option (List ℕ) → List ℕ → Type 0
+WasRead told bytes = WasReadTo script_limit told bytes
+
+-- what was read is all that the source had, or more bytes than the limit
+abbrev pub IsRead : ℕ → Option (List ℕ) → Text → Type 0
+IsRead limit told (Whole bytes) = Had told bytes.items × (length bytes.items ≤ limit)
+IsRead limit told (TooLong bytes) = Began told bytes.items × (limit < length bytes.items)
 
 -- the bytes that were read
 abbrev pub read_bytes : Text → List ℕ

@@ -8,7 +8,7 @@ use Rattle.ak_valid.specs.Faults.{ValidFault}
 use Rattle.ak_valid.specs.Numbered.{numbered}
 use Rattle.ak_exec.specs.Built.{statements, AreBuilt, FirstUnbuilt}
 use Rattle.ak_words.specs.declared.command.Command.{Command}
-use Rattle.ak_words.specs.declared.command.Command.TheVariants.{Run, Check}
+use Rattle.ak_words.specs.declared.command.Command.TheVariants.{Run, Replay, Check}
 use Rattle.ak_top.specs.Headline.{IsScript}
 use Rattle.ak_top.specs.Reading.{Had, WasRead}
 
@@ -25,9 +25,10 @@ pub record Unbuilt (bytes : List ℕ) (line kind : ℕ) : Type 0 where
   pub first : FirstUnbuilt (statements (numbered script)) line
   pub kind_is : kind ≡ 10
 
--- why a command refuses a script
+-- why a command refuses the script in these bytes
 abbrev pub FaultFor : Command → List ℕ → ℕ → ℕ → Type 0
 FaultFor (Run config) bytes line kind = ScriptFault bytes line kind ⊎ Unbuilt bytes line kind
+FaultFor (Replay config) bytes line kind = ScriptFault bytes line kind ⊎ Unbuilt bytes line kind
 FaultFor Check bytes line kind = ScriptFault bytes line kind
 
 -- the bytes that were read have this fault
@@ -45,6 +46,7 @@ pub record TellsFault (command : Command) (told : Option (List ℕ)) (line kind 
 -- what a command takes: a valid script, all of whose statements are built where it is to run
 abbrev pub Takes : Command → List Proc → Type 0
 Takes (Run config) script = AreBuilt (numbered script)
+Takes (Replay config) script = AreBuilt (numbered script)
 Takes Check script = Unit {0}
 
 -- a source tells a script that the command takes

@@ -4,10 +4,9 @@ use Rattle.ak_base.specs.Streams.{grown, TookBeginning}
 use Rattle.ak_labor.specs.declared.config.Config.{Config}
 use Rattle.ak_machine.specs.Status.{Stat, Well, ByError, AtJobLimit, status_of}
 use Rattle.ak_machine.specs.Status as stat
-use Rattle.ak_words.specs.declared.command.Command.{Command}
 use Rattle.ak_words.specs.declared.command.Command.TheVariants as command
 use Rattle.ak_top.specs.declared.status.Status.{Status}
-use Rattle.ak_top.specs.declared.status.Status.TheVariants.{Done, Unhandled, Usage, Refused, ReadFault, WriteFault, Jobs, NoMemory, Stuck}
+use Rattle.ak_top.specs.declared.status.Status.TheVariants.{Done, Unhandled, Usage, Refused, ReadFault, WriteFault, Jobs, NoMemory, BadHistory, Stray, Short, Stuck}
 use Rattle.ak_top.specs.declared.status.Report.{Report}
 use Rattle.ak_top.specs.Headline.{IsRun, IsValidSource}
 use Rattle.ak_top.specs.Refusals.{IsRefused, TellsFault, TellsScript}
@@ -22,6 +21,9 @@ is_carried_out ReadFault = false
 is_carried_out WriteFault = true
 is_carried_out Jobs = true
 is_carried_out NoMemory = false
+is_carried_out (BadHistory line) = false
+is_carried_out (Stray place asked kept) = false
+is_carried_out (Short asked) = false
 is_carried_out Stuck = true
 
 -- the status is that of the trace
@@ -54,6 +56,13 @@ IsNoRefusal (Refused line kind) = ⊥
 IsNoRefusal (Usage place) = ⊥
 IsNoRefusal other = Unit {0}
 
+-- the statuses of a run: what a history does wrong is for replays alone
+abbrev pub IsOfRun : Status → Type 0
+IsOfRun (BadHistory line) = ⊥
+IsOfRun (Stray place asked kept) = ⊥
+IsOfRun (Short asked) = ⊥
+IsOfRun other = Unit {0}
+
 -- the statuses of a test of a script
 abbrev pub IsVerdict : Status → Type 0
 IsVerdict Done = Unit {0}
@@ -65,6 +74,7 @@ IsVerdict other = ⊥
 
 -- the report of a run under these settings, from a source that tells these bytes or none
 pub record ReportsRun (config : Config) (told : Option (List ℕ)) (report : Report) : Type 0 where
+  pub of_run : IsOfRun report.status
   -- the headline: the trace and the history are those of a run of the script
   pub run : is_carried_out report.status ≡ true → IsRun config told report.trace report.history
   pub shows : Shows report.status (status_of report.trace)
@@ -84,11 +94,6 @@ pub record ReportsCheck (told : Option (List ℕ)) (report : Report) : Type 0 wh
   pub refused : (line kind : ℕ) → report.status ≡ Refused line kind → IsRefused command.Check told line kind
   pub refuses : (line kind : ℕ) → TellsFault command.Check told line kind → IsRefusal line kind report.status
   pub completes : TellsScript command.Check told → IsNoRefusal report.status
-
--- the report of a command
-abbrev pub Reports : Command → Option (List ℕ) → Report → Type 0
-Reports (command.Run config) told report = ReportsRun config told report
-Reports command.Check told report = ReportsCheck told report
 
 -- the command was carried out to its end, or there was no memory
 abbrev pub EndsWell : Status → Type 0

@@ -4,7 +4,7 @@ use Rattle.ak_text.specs.Decimal.{decimal_of}
 use Rattle.ak_machine.specs.Status.{Stat, Well, ByError, AtJobLimit, Unfinished}
 use Rattle.ak_machine.specs.Status as stat
 use Rattle.ak_top.specs.declared.status.Status.{Status}
-use Rattle.ak_top.specs.declared.status.Status.TheVariants.{Done, Unhandled, Usage, Refused, ReadFault, WriteFault, Jobs, NoMemory, Stuck}
+use Rattle.ak_top.specs.declared.status.Status.TheVariants.{Done, Unhandled, Usage, Refused, ReadFault, WriteFault, Jobs, NoMemory, BadHistory, Stray, Short, Stuck}
 
 -- the exit status of the program
 abbrev pub number_of : Status → ℕ
@@ -16,6 +16,9 @@ number_of ReadFault = 4
 number_of WriteFault = 5
 number_of Jobs = 6
 number_of NoMemory = 7
+number_of (BadHistory line) = 8
+number_of (Stray place asked kept) = 9
+number_of (Short asked) = 9
 number_of Stuck = 10
 
 -- the names of the kinds of faults of a script, from kind 1 on
@@ -37,6 +40,9 @@ message_of ReadFault = codes "read fault"
 message_of WriteFault = codes "write fault"
 message_of Jobs = codes "job limit reached"
 message_of NoMemory = codes "no memory"
+message_of (BadHistory line) = codes "history line " ++ decimal line
+message_of (Stray place asked kept) = codes "history differs at event " ++ decimal place
+message_of (Short asked) = codes "history ends too soon"
 message_of Stuck = codes "stuck: all threads are reserved"
 
 -- the status is that of a run that ended so; one that has not ended has none

@@ -53,7 +53,7 @@ pub fn check_words<S: Source, K: Sink>(
 {
     match read_command(words) {
         Ok(Command::Check) => check_command(alloc, source, sink),
-        Ok(Command::Run(_)) => unreachable!(),
+        Ok(Command::Run(_) | Command::Replay(_)) => unreachable!(),
         Err(place) => without_run(alloc, Status::Usage { place }),
     }
 }

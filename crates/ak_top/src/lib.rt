@@ -3,6 +3,7 @@
 
 pub mod check;
 pub mod reading;
+pub mod replay;
 pub mod running;
 pub mod status;
 pub mod stop;

@@ -1,8 +1,8 @@
-//! Reading a script from a source.
+//! Reading a source.
 
-ghost use Rattle.std.specs.Prelude.{◌≡◌, ◌≤◌, [], length, IfOk, IfErr, IfSome};
+ghost use Rattle.std.specs.Prelude.{◌≡◌, ◌<◌, ◌≤◌, [], length, IfOk, IfErr, IfSome};
 ghost use Rattle.ak_base.specs.Streams.{Rose, with_front};
-ghost use Rattle.ak_top.specs.Reading.{script_limit, Had, Began, IsRead, IsRefusal, read_bytes};
+ghost use Rattle.ak_top.specs.Reading.{Had, Began, IsRead, IsRefusal, read_bytes};
 
 use ak_base::list::NoMemory;
 use ak_base::source::{ReadFailed, Source};
@@ -11,10 +11,13 @@ use std::alloc::{AllocError, Global};
 /// The most bytes that a script may have.
 pub const SCRIPT_LIMIT: usize = 1_048_576;
 
+/// The most bytes that a source of `replay` may have: a script and a history.
+pub const RECORD_LIMIT: usize = 67_108_864;
+
 // How many bytes one read has room for.
 const ROOM: usize = 4096;
 
-/// What was read: the whole source, or its first bytes, which are more than a script may have.
+/// What was read: the whole source, or its first bytes, which are more than the limit.
 #[derive(Debug, Drop)]
 pub enum Text {
     Whole(Vec<u8>),
@@ -62,17 +65,22 @@ impl From<ReadFailed> for ReadError {
     }
 }
 
-/// Reads a source to its end, to a failed read, or until it gave one byte more than a script may have. Each read has
-/// room for a byte at least.
-pub fn read_script<S: Source>(alloc: Global, source: &mut S) -> Result<Text, ReadError>
-    ensures read { IfOk result (IsRead (S.left source.old)) }
+/// Reads a source to its end, to a failed read, or until it gave one byte more than `limit`, which is less than
+/// 4,294,967,295. Each read has room for a byte at least.
+pub fn read_source<S: Source>(
+    alloc: Global,
+    source: &mut S,
+    limit: usize,
+) -> Result<Text, ReadError>
+    requires { limit < 4294967295 }
+    ensures read { IfOk result (IsRead limit (S.left source.old)) }
     ensures failed { IfErr result (IsRefusal (S.faults source.old) (S.faults source.new)) }
     ensures never_falls { S.faults source.old ≤ S.faults source.new }
 {
     let mut bytes = Vec::new(alloc);
     let mut room = [0; ROOM];
-    while bytes.len() <= SCRIPT_LIMIT {
-        let size = ROOM.min(SCRIPT_LIMIT + 1 - bytes.len());
+    while bytes.len() <= limit {
+        let size = ROOM.min(limit + 1 - bytes.len());
         let count = source.read(&mut room[..size])?;
         if count == 0 {
             return Ok(Text::Whole(bytes));

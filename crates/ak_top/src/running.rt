@@ -15,7 +15,7 @@ ghost use Rattle.ak_top.specs.Reading.{WasRead};
 ghost use Rattle.ak_top.specs.Refusals.{ScriptFault, FaultFor, TellsFault, TellsScript};
 ghost use Rattle.ak_top.specs.Stops.{IsStop, StopsFor, IsNoProgram, IsProgramOf, Refuses, Accepts};
 
-use crate::reading::{Text, read_script};
+use crate::reading::{SCRIPT_LIMIT, Text, read_source};
 use crate::stop::Stop;
 use ak_base::source::Source;
 use ak_crew::crew::crew;
@@ -65,7 +65,7 @@ pub fn run_source<S: Source, L: Labor + Drop, R: Threads + Wait + Sync>(
     ensures accepts { TellsScript (Run config) (S.left source.old) → Accepts result.0 }
     ensures faults { S.faults source.old ≤ S.faults source.new }
 {
-    match read_script(alloc, source) {
+    match read_source(alloc, source, SCRIPT_LIMIT) {
         Ok(text) => run_bytes(rt, alloc, config, text.bytes(), hands),
         Err(error) => (Err(Stop::from(error)), hands),
     }
@@ -81,7 +81,7 @@ pub fn check_source<S: Source>(alloc: Global, source: &mut S) -> Result<(), Stop
     ensures accepts { TellsScript Check (S.left source.old) → Accepts result }
     ensures faults { S.faults source.old ≤ S.faults source.new }
 {
-    match read_script(alloc, source) {
+    match read_source(alloc, source, SCRIPT_LIMIT) {
         Ok(text) => check_bytes(alloc, text.bytes()),
         Err(error) => Err(Stop::from(error)),
     }
@@ -164,7 +164,7 @@ fn run_program<L: Labor + Drop, R: Threads + Wait + Sync>(
 }
 
 // The program of the script in these bytes, each of whose statements is built.
-fn load_built(alloc: Global, bytes: &[u8]) -> Result<Program, Stop>
+pub(crate) fn load_built(alloc: Global, bytes: &[u8]) -> Result<Program, Stop>
     ensures program { IfOk result (IsProgramOf bytes.now) }
     ensures built { IfOk result (λ program. AreBuilt program.procs) }
     ensures stop { (config : Settings) → IfErr result (StopsFor (Run config) bytes.now) }

@@ -8,13 +8,14 @@ ghost use Rattle.ak_top.specs.Status.{number_of, message_of, name_of_kind, IsSta
 
 use ak_base::list::NoMemory;
 use ak_base::number::Num;
-use ak_history::event::History;
+use ak_history::event::{Event, History};
+use ak_labor::ask::Ask;
 use ak_text::decimal::{write_num, write_u64};
 use ak_trace::entry::{Ending, Entry, Trace};
 use std::alloc::Global;
 
 /// How a command ended.
-#[derive(Clone, Copy, PartialEq, Eq, Debug)]
+#[derive(Debug, Drop)]
 pub enum Status {
     /// The run ended idle or stopped.
     Done,
@@ -32,6 +33,13 @@ pub enum Status {
     Jobs,
     /// There was no memory. Nothing was written.
     NoMemory,
+    /// The history of a replay is none, or is not legal: the number of its first line at fault in the source, or of the line
+    /// after the source's last where no line is `%pool`.
+    BadHistory { line: u32 },
+    /// The script of a replay makes another call than its history has next, at this place, counted from 0.
+    Stray { place: u32, asked: Ask, kept: Event },
+    /// The script of a replay makes one call more than its history has.
+    Short { asked: Ask },
     /// Every thread is reserved, and the works that are left wait for one that is not.
     Stuck,
 }
@@ -50,6 +58,9 @@ impl Status {
             Status::WriteFault => 5,
             Status::Jobs => 6,
             Status::NoMemory => 7,
+            Status::BadHistory { .. } => 8,
+            Status::Stray { .. } => 9,
+            Status::Short { .. } => 9,
             Status::Stuck => 10,
         }
     }
@@ -139,6 +150,15 @@ pub fn message(alloc: Global, status: &Status) -> Result<Vec<u8>, NoMemory>
         Status::WriteFault => text.extend_from_slice(b"write fault")?,
         Status::Jobs => text.extend_from_slice(b"job limit reached")?,
         Status::NoMemory => text.extend_from_slice(b"no memory")?,
+        Status::BadHistory { line } => {
+            text.extend_from_slice(b"history line ")?;
+            push_u64(&mut text, u64::from(*line))?;
+        }
+        Status::Stray { place, .. } => {
+            text.extend_from_slice(b"history differs at event ")?;
+            push_u64(&mut text, u64::from(*place))?;
+        }
+        Status::Short { .. } => text.extend_from_slice(b"history ends too soon")?,
         Status::Stuck => text.extend_from_slice(b"stuck: all threads are reserved")?,
     }
     Ok(text)

@@ -8,13 +8,14 @@ ghost use Rattle.ak_cycle.specs.Turns.{IsFinished};
 ghost use Rattle.ak_machine.specs.Status.{status_of};
 ghost use Rattle.ak_words.specs.declared.command.Command.{Command as Order};
 ghost use Rattle.ak_words.specs.Words.{Means, IsCommand, IsUsageFault};
+ghost use Rattle.ak_top.specs.Commands.{Reports, TellsWhole};
 ghost use Rattle.ak_top.specs.Hands.{AreAfterRun, AreAfter};
 ghost use Rattle.ak_top.specs.Output.{output, output_of};
-ghost use Rattle.ak_top.specs.Refusals.{TellsScript};
-ghost use Rattle.ak_top.specs.Reports.{is_carried_out, Took, Reports, ReportsRun, EndsWell};
+ghost use Rattle.ak_top.specs.Reports.{is_carried_out, Took, ReportsRun, EndsWell};
 ghost use Rattle.ak_top.specs.Status.{IsStatusOf};
 
 use crate::check::{check_command, without_run};
+use crate::replay::replay_command;
 use crate::running::{Ran, run_source};
 use crate::status::{Report, Status, status_of_trace};
 use ak_base::buffer::Buffer;
@@ -33,16 +34,18 @@ use std::sync::Wait;
 use std::thread::Threads;
 
 /// Carries out the command that the words give. `run` reads a script from the source, runs it, each thread with the hand
-/// at its place, and writes the text of its trace and of its history to the sink. `check` reads a script and writes the
-/// line `valid` where it has no fault. Own.
+/// at its place, and writes the text of its trace and of its history to the sink. `replay` reads a script, the line `%pool`
+/// and a history, runs the script over that history on the calling thread, and writes the same of it. `check` reads a
+/// script and writes the line `valid` where it has no fault. Own.
 ///
-/// The source is read to its end, to a failed read, or until it gave one byte more than a script may have; each read
-/// has room for a byte at least. Nothing is written before the run has ended, no empty piece is ever written, and
+/// The source is read to its end, to a failed read, or until it gave one byte more than it may have: 1,048,576, or
+/// 67,108,864 for `replay`. Each read has room for a byte at least. Nothing is written before the run has ended, no empty piece is ever written, and
 /// writing takes no memory.
 ///
 /// The statuses, in the order in which their causes are tried: `Usage` where the words are no command; `ReadFault`;
-/// `Refused` by the first line of the script with a fault, and the least kind of its faults; then the run's own end, or
-/// `WriteFault`. `NoMemory` may come before the first byte is written.
+/// `Refused` by the first line of the script with a fault, and the least kind of its faults; of a replay `BadHistory`, by
+/// the first line of the history at fault, then `Stray` and `Short`, where the script makes another call than the history
+/// has next; then the run's own end, or `WriteFault`. `NoMemory` may come before the first byte is written.
 ///
 /// The hands come back: after a run in their order, each having carried as many works as its thread finished; after want
 /// of memory in a run nothing is known of them; and else as they came.
@@ -82,7 +85,7 @@ pub fn top<S: Source, K: Sink, L: Labor + Drop, R: Threads + Wait + Sync>(
     ensures write_fault { result.0.status ≡ Status.WriteFault
         → IsCommand words.now × Rose (K.faults sink.old) (K.faults sink.new) }
     ensures complete { (command : Order) → Means words.now command
-        → TellsScript command (S.left source.old)
+        → TellsWhole command (S.left source.old)
         → (Rose (S.faults source.old) (S.faults source.new) → ⊥) → (Rose (K.faults sink.old) (K.faults sink.new) → ⊥)
         → EndsWell result.0.status }
     ensures source_faults { S.faults source.old ≤ S.faults source.new }
@@ -90,6 +93,7 @@ pub fn top<S: Source, K: Sink, L: Labor + Drop, R: Threads + Wait + Sync>(
 {
     match read_command(words) {
         Ok(Command::Run(config)) => run_command(rt, alloc, config, source, sink, hands),
+        Ok(Command::Replay(config)) => (replay_command(alloc, config, source, sink), hands),
         Ok(Command::Check) => (check_command(alloc, source, sink), hands),
         Err(place) => (without_run(alloc, Status::Usage { place }), hands),
     }
@@ -129,7 +133,7 @@ fn run_command<S: Source, K: Sink, L: Labor + Drop, R: Threads + Wait + Sync>(
 }
 
 // Writes a run, and reports it.
-fn write_run<K: Sink>(ran: Ran, sink: &mut K) -> Report
+pub(crate) fn write_run<K: Sink>(ran: Ran, sink: &mut K) -> Report
     requires { IsFinished (status_of ran.trace) }
     ensures trace { result.trace ≡ ran.trace }
     ensures history { result.history ≡ ran.history }

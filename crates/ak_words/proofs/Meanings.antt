@@ -3,11 +3,11 @@ use Rattle.std.proofs.Common.{◌≡◌, ℕ, ◌≤◌, List, [], ◌∷◌, re
 use Rattle.std.specs.Prelude.{codes}
 use Rattle.ak_labor.specs.declared.config.Config.{Config}
 use Rattle.ak_words.specs.declared.command.Command.{Command}
-use Rattle.ak_words.specs.declared.command.Command.TheVariants.{Run, Check}
+use Rattle.ak_words.specs.declared.command.Command.TheVariants.{Run, Replay, Check}
 use Rattle.ak_words.specs.declared.settings.Setting.{Setting}
 use Rattle.ak_words.specs.declared.settings.Setting.TheVariants.{Threads, Limit, Jobs}
 use Rattle.ak_words.specs.declared.settings.Given.{Given}
-use Rattle.ak_words.specs.Words.{with_setting, none_given, or_default, IsValue, Continues, Means}
+use Rattle.ak_words.specs.Words.{with_setting, none_given, or_default, IsValue, Continues, GivesSettings, Means}
 use Rattle.ak_words.proofs.Places.{goes_behind}
 
 one_config : (given : Given) (words : List (List ℕ)) (c d : Config) → Continues given words c → Continues given words d → c ≡ d
@@ -15,13 +15,25 @@ one_config given [] c d h k = h ∙ sym k
 one_config given (name ∷ []) c d h k = absurd h
 one_config given (name ∷ value ∷ words) c d h k = one_config (with_setting h.0 h.1 given) words c d h.3 (goes_behind given name value words d h.0 h.1 h.2 k)
 
+one_settings : (first : List ℕ) (words : List (List ℕ)) (c d : Config) → GivesSettings first words c → GivesSettings first words d → c ≡ d
+one_settings first words c d h k =
+    let same : h.0 ≡ k.0 = ap (λ ws. drop 1 ws) (sym h.1 ∙ k.1) in
+    one_config none_given h.0 c d h.2 (subst (λ ws. Continues none_given ws d) (sym same) k.2)
+
+-- words have one first word
+other_first : (first other : List ℕ) (rest more words : List (List ℕ)) → words ≡ first ∷ rest → words ≡ other ∷ more → first ≡ other
+other_first first other rest more words h k = cc
+
 pub one_command : (words : List (List ℕ)) (c d : Command) → Means words c → Means words d → c ≡ d
-one_command words (Run c) (Run d) h k =
-    let same : h.0 ≡ k.0 = ap (λ ws. drop 1 ws) (sym h.1 ∙ k.1)
-    in ap Run (one_config none_given h.0 c d h.2 (subst (λ ws. Continues none_given ws d) (sym same) k.2))
-one_command words (Run c) Check h k = let e : codes "run" ∷ h.0 ≡ codes "check" ∷ [] = sym h.1 ∙ k in absurd (cc (e))
-one_command words Check (Run d) h k = let e : codes "run" ∷ k.0 ≡ codes "check" ∷ [] = sym k.1 ∙ h in absurd (cc (e))
+one_command words (Run c) (Run d) h k = ap Run (one_settings (codes "run") words c d h k)
+one_command words (Replay c) (Replay d) h k = ap Replay (one_settings (codes "replay") words c d h k)
 one_command words Check Check h k = refl
+one_command words (Run c) (Replay d) h k = absurd (cc (other_first (codes "run") (codes "replay") h.0 k.0 words h.1 k.1))
+one_command words (Run c) Check h k = absurd (cc (other_first (codes "run") (codes "check") h.0 [] words h.1 k))
+one_command words (Replay c) (Run d) h k = absurd (cc (other_first (codes "replay") (codes "run") h.0 k.0 words h.1 k.1))
+one_command words (Replay c) Check h k = absurd (cc (other_first (codes "replay") (codes "check") h.0 [] words h.1 k))
+one_command words Check (Run d) h k = absurd (cc (other_first (codes "check") (codes "run") [] k.0 words h k.1))
+one_command words Check (Replay d) h k = absurd (cc (other_first (codes "check") (codes "replay") [] k.0 words h k.1))
 
 -- the limit of a cycle
 abbrev HasLimit : Given → Type 0
@@ -37,8 +49,8 @@ limit_behind given [] c l h = subst (λ (x : Config). 1 ≤ x.limit) (sym h) l
 limit_behind given (name ∷ []) c l h = absurd h
 limit_behind given (name ∷ value ∷ words) c l h = limit_behind (with_setting h.0 h.1 given) words c (keeps_limit h.0 h.1 given value l h.2.number) h.3
 
-pub has_limit : (words : List (List ℕ)) (config : Config) → Means words (Run config) → 1 ≤ config.limit
-has_limit words config h = limit_behind none_given h.0 config (omega arith) h.2
+pub has_limit : (first : List ℕ) (words : List (List ℕ)) (config : Config) → GivesSettings first words config → 1 ≤ config.limit
+has_limit first words config h = limit_behind none_given h.0 config (omega arith) h.2
 
 -- the threads of the pool
 abbrev HasThreads : Given → Type 0
@@ -54,8 +66,8 @@ threads_behind given [] c l h = subst (λ (x : Config). (1 ≤ x.threads) × (x.
 threads_behind given (name ∷ []) c l h = absurd h
 threads_behind given (name ∷ value ∷ words) c l h = threads_behind (with_setting h.0 h.1 given) words c (keeps_threads h.0 h.1 given value l h.2.number) h.3
 
-pub has_threads : (words : List (List ℕ)) (config : Config) → Means words (Run config) → (1 ≤ config.threads) × (config.threads ≤ 32)
-has_threads words config h = threads_behind none_given h.0 config (omega arith, omega arith) h.2
+pub has_threads : (first : List ℕ) (words : List (List ℕ)) (config : Config) → GivesSettings first words config → (1 ≤ config.threads) × (config.threads ≤ 32)
+has_threads first words config h = threads_behind none_given h.0 config (omega arith, omega arith) h.2
 
 -- nobody asks from outside
 askers_behind : (given : Given) (words : List (List ℕ)) (c : Config) → Continues given words c → c.askers ≡ 0
@@ -63,5 +75,5 @@ askers_behind given [] c h = ap (λ (x : Config). x.askers) h
 askers_behind given (name ∷ []) c h = absurd h
 askers_behind given (name ∷ value ∷ words) c h = askers_behind (with_setting h.0 h.1 given) words c h.3
 
-pub has_no_askers : (words : List (List ℕ)) (config : Config) → Means words (Run config) → config.askers ≡ 0
-has_no_askers words config h = askers_behind none_given h.0 config h.2
+pub has_no_askers : (first : List ℕ) (words : List (List ℕ)) (config : Config) → GivesSettings first words config → config.askers ≡ 0
+has_no_askers first words config h = askers_behind none_given h.0 config h.2

@@ -3,11 +3,13 @@ use Rattle.std.proofs.Common.{◌≡◌, ℕ, zero, suc, ◌+◌, ◌-◌, ◌<�
 use Rattle.std.specs.Prelude.{codes, None}
 use Rattle.ak_labor.specs.declared.config.Config.{Config}
 use Rattle.ak_words.specs.declared.command.Command.{Command}
-use Rattle.ak_words.specs.declared.command.Command.TheVariants.{Run, Check}
+use Rattle.ak_words.specs.declared.command.Command.TheVariants.{Run, Replay, Check}
+use Rattle.ak_words.specs.declared.command.Order.{Order}
+use Rattle.ak_words.specs.declared.command.Order.TheVariants as order
 use Rattle.ak_words.specs.declared.settings.Setting.{Setting}
 use Rattle.ak_words.specs.declared.settings.Setting.TheVariants.{Threads, Limit, Jobs}
 use Rattle.ak_words.specs.declared.settings.Given.{Given}
-use Rattle.ak_words.specs.Words.{name_of, given_at, with_setting, none_given, config_of, IsValue, IsSetting, Continues, Means, BeginsCommand, IsUsageFault, BeginsSettings, IsSettingsFault}
+use Rattle.ak_words.specs.Words.{word_of, name_of, given_at, with_setting, none_given, config_of, IsValue, IsSetting, Continues, GivesSettings, Means, IsCommand, BeginsCommand, IsUsageFault, BeginsSettings, IsSettingsFault}
 
 -- ---- lists
 take_all : {A : Type 0} (xs : List A) (n : ℕ) → n ≡ length xs → take n xs ≡ xs
@@ -118,26 +120,46 @@ fault_later given name value rest s n place is f = record {
 tail_is : (x y : List ℕ) (xs ys : List (List ℕ)) → x ∷ xs ≡ y ∷ ys → xs ≡ ys
 tail_is x y xs ys e = ap (λ zs. drop 1 zs) e
 
-run_means : (rest : List (List ℕ)) (command : Command) → Means (codes "run" ∷ rest) command → (config : Config) × Continues none_given rest config
+-- words that begin with that word give settings
+abbrev OnlySettings : List ℕ → Type 0
+OnlySettings first = (rest : List (List ℕ)) (command : Command) → Means (first ∷ rest) command → (config : Config) × Continues none_given rest config
+
+run_means : OnlySettings (codes "run")
 run_means rest (Run config) h = (config, subst (λ ws. Continues none_given ws config) (sym (tail_is _ _ rest h.0 h.1)) h.2)
+run_means rest (Replay config) h = absurd (cc (h.1))
 run_means rest Check h = absurd (cc)
+
+replay_means : OnlySettings (codes "replay")
+replay_means rest (Run config) h = absurd (cc (h.1))
+replay_means rest (Replay config) h = (config, subst (λ ws. Continues none_given ws config) (sym (tail_is _ _ rest h.0 h.1)) h.2)
+replay_means rest Check h = absurd (cc)
 
 take_one : (place : ℕ) (x : List ℕ) (xs : List (List ℕ)) → take (place + 1) (x ∷ xs) ≡ x ∷ take place xs
 take_one place x xs = let e : place + 1 ≡ suc place = omega arith in ap (λ n. take n (x ∷ xs)) e
 
-pub run_fault : (rest : List (List ℕ)) (place : ℕ) → IsSettingsFault none_given rest place → IsUsageFault (codes "run" ∷ rest) (place + 1)
-run_fault rest place f = record {
-  no_command = λ c. let m = run_means rest c.0 c.1 in f.no_settings m.0 m.1;
+fault_in_settings : (first : List ℕ) → OnlySettings first
+    → ((words : List (List ℕ)) (config : Config) → GivesSettings first words config → IsCommand words)
+    → (rest : List (List ℕ)) (place : ℕ) → IsSettingsFault none_given rest place → IsUsageFault (first ∷ rest) (place + 1)
+fault_in_settings first only make rest place f = record {
+  no_command = λ c. let m = only rest c.0 c.1 in f.no_settings m.0 m.1;
   within = omega (arith, f.within);
-  before = subst BeginsCommand (sym (take_one place (codes "run") rest)) (f.before.0, (Run f.before.1, (take place rest ++ f.before.0, refl, f.before.2)));
+  before = subst BeginsCommand (sym (take_one place first rest))
+      (f.before.0, make (first ∷ (take place rest ++ f.before.0)) f.before.1 (take place rest ++ f.before.0, refl, f.before.2));
   wrong = λ lt b.
-      let c : BeginsCommand (codes "run" ∷ take (place + 1) rest) = subst BeginsCommand (take_one (place + 1) (codes "run") rest) b
-      in let m = run_means (take (place + 1) rest ++ c.0) c.1.0 c.1.1
-      in f.wrong (omega (arith, lt)) (c.0, m.0, m.1);
+      let c : BeginsCommand (first ∷ take (place + 1) rest) = subst BeginsCommand (take_one (place + 1) first rest) b in
+      let m = only (take (place + 1) rest ++ c.0) c.1.0 c.1.1 in
+      f.wrong (omega (arith, lt)) (c.0, m.0, m.1);
 }
+
+pub run_fault : (rest : List (List ℕ)) (place : ℕ) → IsSettingsFault none_given rest place → IsUsageFault (codes "run" ∷ rest) (place + 1)
+run_fault = fault_in_settings (codes "run") run_means (λ words config h. (Run config, h))
+
+pub replay_fault : (rest : List (List ℕ)) (place : ℕ) → IsSettingsFault none_given rest place → IsUsageFault (codes "replay" ∷ rest) (place + 1)
+replay_fault = fault_in_settings (codes "replay") replay_means (λ words config h. (Replay config, h))
 
 check_alone : (x : List ℕ) (more : List (List ℕ)) (command : Command) → Means (codes "check" ∷ x ∷ more) command → ⊥
 check_alone x more (Run config) h = absurd (cc (h.1))
+check_alone x more (Replay config) h = absurd (cc (h.1))
 check_alone x more Check h = absurd (cc (h))
 
 pub check_fault : (x : List ℕ) (more : List (List ℕ)) → IsUsageFault (codes "check" ∷ x ∷ more) 1
@@ -148,21 +170,26 @@ check_fault x more = record {
   wrong = λ lt b. check_alone x b.0 b.1.0 b.1.1;
 }
 
-other_means : (first : List ℕ) (more : List (List ℕ)) (command : Command) → (first ≡ codes "run" → ⊥) → (first ≡ codes "check" → ⊥)
-    → Means (first ∷ more) command → ⊥
-other_means first more (Run config) r k h = r (cc (h.1))
-other_means first more Check r k h = k (cc (h))
+-- the word begins no command
+abbrev pub BeginsNone : List ℕ → Type 0
+BeginsNone first = (o : Order) → first ≡ word_of o → ⊥
 
-pub other_fault : (first : List ℕ) (more : List (List ℕ)) → (first ≡ codes "run" → ⊥) → (first ≡ codes "check" → ⊥) → IsUsageFault (first ∷ more) 0
-other_fault first more r k = record {
-  no_command = λ c. other_means first more c.0 r k c.1;
+other_means : (first : List ℕ) (more : List (List ℕ)) (command : Command) → BeginsNone first → Means (first ∷ more) command → ⊥
+other_means first more (Run config) none h = none order.Run (cc (h.1))
+other_means first more (Replay config) none h = none order.Replay (cc (h.1))
+other_means first more Check none h = none order.Check (cc (h))
+
+pub other_fault : (first : List ℕ) (more : List (List ℕ)) → BeginsNone first → IsUsageFault (first ∷ more) 0
+other_fault first more none = record {
+  no_command = λ c. other_means first more c.0 none c.1;
   within = omega arith;
   before = (codes "check" ∷ [], (Check, refl));
-  wrong = λ lt b. other_means first b.0 b.1.0 r k b.1.1;
+  wrong = λ lt b. other_means first b.0 b.1.0 none b.1.1;
 }
 
 none_means : (command : Command) → Means [] command → ⊥
 none_means (Run config) h = absurd (cc (h.1))
+none_means (Replay config) h = absurd (cc (h.1))
 none_means Check h = absurd (cc (h))
 
 pub none_fault : IsUsageFault [] 0

@@ -3,7 +3,9 @@ use Rattle.std.specs.Prelude.{ℕ, ◌+◌, ◌<◌, ◌≤◌, List, [], ◌∷
 use Rattle.ak_text.specs.Numbers.{AreDigits, digits_value}
 use Rattle.ak_labor.specs.declared.config.Config.{Config}
 use Rattle.ak_words.specs.declared.command.Command.{Command}
-use Rattle.ak_words.specs.declared.command.Command.TheVariants.{Run, Check}
+use Rattle.ak_words.specs.declared.command.Command.TheVariants.{Run, Replay, Check}
+use Rattle.ak_words.specs.declared.command.Order.{Order}
+use Rattle.ak_words.specs.declared.command.Order.TheVariants as order
 use Rattle.ak_words.specs.declared.settings.Setting.{Setting}
 use Rattle.ak_words.specs.declared.settings.Setting.TheVariants.{Threads, Limit, Jobs}
 use Rattle.ak_words.specs.declared.settings.Given.{Given}
@@ -76,10 +78,21 @@ Continues given (name ∷ value ∷ words) config =
     (setting : Setting) × (n : ℕ) × IsSetting given name value setting n × Continues (with_setting setting n given) words config
 
 -- ---- commands
+-- the first word of a command
+abbrev pub word_of : Order → List ℕ
+word_of order.Run = codes "run"
+word_of order.Replay = codes "replay"
+word_of order.Check = codes "check"
+
+-- the words are this word and settings
+abbrev pub GivesSettings : List ℕ → List (List ℕ) → Config → Type 0
+GivesSettings first words config = (rest : List (List ℕ)) × (words ≡ first ∷ rest) × Continues none_given rest config
+
 -- the words are the command
 abbrev pub Means : List (List ℕ) → Command → Type 0
-Means words (Run config) = (rest : List (List ℕ)) × (words ≡ codes "run" ∷ rest) × Continues none_given rest config
-Means words Check = words ≡ codes "check" ∷ []
+Means words (Run config) = GivesSettings (word_of order.Run) words config
+Means words (Replay config) = GivesSettings (word_of order.Replay) words config
+Means words Check = words ≡ word_of order.Check ∷ []
 
 -- the words are a command
 abbrev pub IsCommand : List (List ℕ) → Type 0

@@ -1,7 +1,7 @@
 //! The command that words give.
 
-ghost use Rattle.std.specs.Prelude.{◌≡◌, ◌∷◌, ◌↔◌, IsTrue, IfOk, IfErr, codes};
-ghost use Rattle.ak_words.specs.Words.{Means, IsUsageFault};
+ghost use Rattle.std.specs.Prelude.{◌≡◌, ◌+◌, ◌∷◌, ℕ, MatchOption, IfOk, IfErr, codes};
+ghost use Rattle.ak_words.specs.Words.{word_of, none_given, Continues, Means, IsUsageFault, IsSettingsFault};
 
 use crate::settings::{Given, settings};
 use ak_base::list::Word;
@@ -12,11 +12,36 @@ use ak_labor::config::Config;
 pub enum Command {
     /// To run a script with these settings.
     Run(Config),
+    /// To run a script again over the record of a pool, with these settings.
+    Replay(Config),
     /// To test a script.
     Check,
 }
 
-/// The command that words give: `run` with settings, each at most once and in any order, or `check`. Own.
+/// The first word of a command.
+#[derive(Clone, Copy, PartialEq, Eq, Debug)]
+pub enum Order {
+    Run,
+    Replay,
+    Check,
+}
+
+impl Order {
+    /// The order that a word is: `None` exactly where the word is none.
+    fn named(word: &Word) -> Option<Order>
+        ensures { MatchOption result ((order : Order) → word.now ≡ word_of order → ⊥)
+            (λ order. word.now ≡ word_of order) }
+    {
+        match word.as_slice() {
+            b"run" => Some(Order::Run),
+            b"replay" => Some(Order::Replay),
+            b"check" => Some(Order::Check),
+            _ => None,
+        }
+    }
+}
+
+/// The command that words give: `run` or `replay` with settings, each at most once and in any order, or `check`. Own.
 ///
 /// # Errors
 ///
@@ -27,25 +52,40 @@ pub fn read_command(words: &[Word]) -> Result<Command, u32>
     ensures usage { IfErr result (IsUsageFault words.now) }
 {
     match words {
-        [first, rest @ ..] => {
-            if is_word(first, b"run") {
-                run(rest)
-            } else if is_word(first, b"check") {
-                check(rest)
-            } else {
-                Err(0)
-            }
-        }
+        [first, rest @ ..] => match Order::named(first) {
+            Some(order) => given(order, rest),
+            None => Err(0),
+        },
         [] => Err(0),
     }
 }
 
-fn run(rest: &[Word]) -> Result<Command, u32>
-    ensures command { IfOk result (Means (codes "run" ∷ rest.now)) }
-    ensures usage { IfErr result (IsUsageFault (codes "run" ∷ rest.now)) }
+/// The command that words give behind its first word.
+fn given(order: Order, rest: &[Word]) -> Result<Command, u32>
+    ensures command { IfOk result (Means (word_of order ∷ rest.now)) }
+    ensures usage { IfErr result (IsUsageFault (word_of order ∷ rest.now)) }
+{
+    match order {
+        Order::Run => match behind(rest) {
+            Ok(config) => Ok(Command::Run(config)),
+            Err(place) => Err(place),
+        },
+        Order::Replay => match behind(rest) {
+            Ok(config) => Ok(Command::Replay(config)),
+            Err(place) => Err(place),
+        },
+        Order::Check => check(rest),
+    }
+}
+
+/// The settings that words give behind a first word.
+fn behind(rest: &[Word]) -> Result<Config, u32>
+    ensures settings { IfOk result (Continues none_given rest.now) }
+    ensures fault { IfErr result (λ place. (within : ℕ) × (place ≡ within + 1)
+        × IsSettingsFault none_given rest.now within) }
 {
     match settings(Given::none(), rest) {
-        Ok(config) => Ok(Command::Run(config)),
+        Ok(config) => Ok(config),
         Err(place) => Err(place + 1),
     }
 }
@@ -58,10 +98,4 @@ fn check(rest: &[Word]) -> Result<Command, u32>
         [] => Ok(Command::Check),
         [_, ..] => Err(1),
     }
-}
-
-fn is_word(word: &Word, text: &[u8]) -> bool
-    ensures { IsTrue result ↔ (word.now ≡ text.now) }
-{
-    word.as_slice() == text
 }

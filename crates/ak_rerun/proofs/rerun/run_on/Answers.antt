@@ -19,12 +19,13 @@ returns-in-Ok-clause-ran g c =
     c.has_called.ensures c.args.program c.args.config (replies c.args.config.askers c.args.history) in
     let all =
     ends_together c.args.program c.args.config c.args.history c.run.new.port c.in-Ok.trace c.run.new.port.waits law c.requires.legal
-    named c.in-Ok.ensures.ended c.in-Ok.ensures.closed in (
+    named c.in-Ok.ensures.ended c.in-Ok.ensures.closed c.in-Ok.ensures.idle in (
       record {
         meets = all.meets;
         ended = all.ended;
         trace_is = all.trace_is;
         asks_are = all.asks_are;
+        once = all.once;
         finished = c.in-Ok.ensures.finished;
         laws = c.in-Ok.ensures.laws;
       },
