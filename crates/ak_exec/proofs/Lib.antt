@@ -7,3 +7,5 @@ pub mod Returned
 pub mod Picks
 mod Whole
 mod Unbuilt
+mod Sent
+mod Throttled

@@ -46,6 +46,7 @@ by_fits program n (Some job) b s f = record {
   monitors = f.monitors;
   purposes = f.purposes;
   clock = f.clock;
+  throttles = f.throttles;
 }
 by_fits program n None (Some job) s f = record {
   handlers = f.handlers;
@@ -54,6 +55,7 @@ by_fits program n None (Some job) s f = record {
   monitors = f.monitors;
   purposes = f.purposes;
   clock = f.clock;
+  throttles = f.throttles;
 }
 by_fits program n None None s f = record {
   handlers = f.handlers;
@@ -62,6 +64,7 @@ by_fits program n None None s f = record {
   monitors = f.monitors;
   purposes = f.purposes;
   clock = f.clock;
+  throttles = f.throttles;
 }
 
 pub left_fits : (program : List NumProc) (s : State) → Fits program s → Fits program (without_pick s)

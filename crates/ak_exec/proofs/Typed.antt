@@ -1,12 +1,12 @@
 -- Lines of a sound program: each statement finds what it needs, and what it leaves fits.
-use Rattle.std.proofs.Common.{◌≡◌, ℕ, ◌<◌, List, [], ◌∷◌, ◌++◌, length, map, subst, sym, ap, arith, Bool, true, false, cond, append_assoc}
+use Rattle.std.proofs.Common.{◌≡◌, ℕ, ◌<◌, List, [], ◌∷◌, ◌++◌, length, refl, subst, sym, ap, arith, Bool, true, false, cond, append_assoc, map}
 use Rattle.std.specs.Prelude.{ℤ, ◌+ℤ◌, pos, Option, Some, None, Result, Ok, Err}
 use Rattle.std.specs.List.{AllByRecursion}
 use Rattle.std.proofs.lemmas.List.{append-nil, length-map}
 use Rattle.ak_base.specs.Numbers.{fits}
 use Rattle.ak_base.specs.declared.number.Ctx.{Ctx}
 use Rattle.ak_script.specs.declared.script.Kind.{Kind}
-use Rattle.ak_script.specs.declared.script.Kind.TheVariants.{Num, Ivar, Def, Mon, Event}
+use Rattle.ak_script.specs.declared.script.Kind.TheVariants.{Num, Ivar, Def, Mon, Thr, Event}
 use Rattle.ak_frames.specs.declared.value.Value.{Value}
 use Rattle.ak_frames.specs.declared.value.Value.TheVariants as value
 use Rattle.ak_frames.specs.declared.frame.Ret.{Ret}
@@ -34,16 +34,17 @@ use Rattle.ak_machine.specs.State.{State, next_ivar}
 use Rattle.ak_machine.specs.Number.{Computed, Gives, Overflows, DividesByZero, computed}
 use Rattle.ak_machine.specs.Deferred.{noting, plain_task, with_ivar, is_empty, fill, register}
 use Rattle.ak_machine.specs.Monitors.{with_monitor, detach, handled_by, next_error_awaited, in_monitor}
-use Rattle.ak_machine.specs.Groups.{all_begun, any_begun, choice_begun, try_begun}
+use Rattle.ak_machine.specs.Groups.{try_begun, all_begun, any_begun, choice_begun}
+use Rattle.ak_machine.specs.Throttles.{throttle_at, with_throttle, done_awaited}
 use Rattle.ak_machine.specs.Errors.{After, send}
-use Rattle.ak_machine.specs.Effect.{Effect, Goes, Raises, Returns, Ends, overflow, full_ivar, bound, result_bound, local, name_of, number_in, name_in, args_of, call_to_fresh, holds}
-use Rattle.ak_machine.specs.Statement.{choosable, effect_of, set_effect, sent_effect, tick_effect, line_effect}
+use Rattle.ak_machine.specs.Effect.{Effect, Goes, Raises, Returns, Ends, overflow, full_ivar, dead_throttle, bound, result_bound, local, name_of, number_in, name_in, args_of, call_to_fresh, holds}
+use Rattle.ak_machine.specs.Statement.{effect_of, set_effect, sent_effect, tick_effect, line_effect, choosable}
 use Rattle.ak_exec.specs.Ready.{IsReady, IsTold}
 use Rattle.ak_exec.specs.Built.{IsBuiltStmt}
 use Rattle.ak_state.specs.Drawn.{Drawn, drawn}
 use Rattle.ak_state.specs.Fits.{ValueFits, ValsFit, kinds_of, RetFits, CallFits, numbers, Fits}
 use Rattle.ak_exec.specs.Typed.{kinds_after, AreTyped, IsReturned, EffectFits, IsUnderWay}
-use Rattle.ak_exec.proofs.Values.{ivar_at, def_at, mon_at, event_at, num_at, returned_at, call_bound, front_call_fits, call_fits, value_call_fits, defs_at, names_drawn, choices_at, choice_bound, choices_fit, all_front, all_back, vals_push}
+use Rattle.ak_exec.proofs.Values.{ivar_at, def_at, mon_at, thr_at, event_at, num_at, returned_at, call_bound, call_fits, value_call_fits, all_front, all_back, vals_push, front_call_fits, defs_at, names_drawn, choices_at, choice_bound, choices_fit}
 use Rattle.ak_state.specs.Reads.{IsMonitor}
 use Rattle.ak_state.specs.Alarms.{at_time}
 use Rattle.ak_state.proofs.Alarms.{yield_grows, alarm_grows, abort_grows, time_grows}
@@ -52,6 +53,8 @@ use Rattle.ak_state.proofs.Monitors.{child_drawn, child_grows, detach_grows, han
 use Rattle.ak_state.proofs.Groups.{try_begun_grows}
 use Rattle.ak_state.proofs.Choices.{all_begun_grows, any_begun_grows, choice_begun_grows}
 use Rattle.ak_state.proofs.Errors.{send_grows}
+use Rattle.ak_state.specs.Bodies.{body_begun}
+use Rattle.ak_state.proofs.Bodies.{fresh_drawn, fresh_grows, begun_grows, begun_drawn, awaited_bodies_grow}
 
 -- a statement of a sound program finds what it needs
 pub ready : (program : List NumProc) (kinds : List Kind) (prefix : Option NumPrefix) (line : ℕ) (st : NumStmt) (s : State) (vals : List Value)
@@ -96,6 +99,10 @@ ready program kinds prefix line (stmt.Send m a) s vals f h built =
     (mon_at (drawn s) kinds vals m f h.uses.0, num_at (drawn s) kinds vals a f h.uses.1)
 ready program kinds prefix line (stmt.Try r proc args catch catch_args kind) s vals f h built =
     (call_bound program (drawn s) kinds vals proc 0 args f h.calls.0, call_bound program (drawn s) kinds vals catch 1 catch_args f h.calls.1.0)
+ready program kinds prefix line (stmt.Throttle t k stop) s vals f h built = h.within.0
+ready program kinds prefix line (stmt.Enqueue r t proc args) s vals f h built =
+    (thr_at (drawn s) kinds vals t f h.uses.0, call_bound program (drawn s) kinds vals proc 0 args f h.calls.0)
+ready program kinds prefix line (stmt.ThrottleDone r t) s vals f h built = thr_at (drawn s) kinds vals t f h.uses.0
 ready program kinds prefix line (stmt.Raise a) s vals f h built = num_at (drawn s) kinds vals a f h.uses
 ready program kinds prefix line (stmt.Ret a) s vals f h built = (returned_at (drawn s) kinds vals a f h.uses).0
 ready program kinds prefix line other s vals f h built = absurd built
@@ -176,6 +183,13 @@ sent_fits program kinds s vals after f g = by after.flow
     by flow.On = goes_fit program kinds s after.state vals f g
     by flow.Stopped = g.fits
     by (flow.Unhandled e) = g.fits
+
+-- a body for a throttle, by whether that is dead
+dead_fits : (program : List NumProc) (kinds : List Kind) (dead : Bool) (s s' : State) (vals : List Value) → ValsFit (drawn s) kinds vals
+    → (dead ≡ false → Grows program s s') → (dead ≡ false → length s.cells.ivars < length s'.cells.ivars)
+    → EffectFits program (drawn s) (kinds ++ Def ∷ []) (cond dead (Raises dead_throttle) (Goes s' (result_bound s vals)))
+dead_fits program kinds true s s' vals f g d = tt
+dead_fits program kinds false s s' vals f g d = binds_fit program kinds s s' vals Def (value.Def (next_ivar s)) f (g refl) (d refl)
 
 monitor_name : (n : ℕ) (v : Value) → IsMonitor n v → name_of v < n
 monitor_name n (value.Mon m) f = f
@@ -302,6 +316,20 @@ effect_fits program ctx kinds prefix line (stmt.Try r proc args catch catch_args
     (call_fits program (drawn t) kinds vals proc args fit h.calls.0) (value_call_fits program (drawn t) kinds vals catch catch_args fit h.calls.1.0) new
     in binds_fit program kinds s (try_begun ctx kind proc (args_of vals args) call t) vals Def (value.Def (next_ivar s)) f
     (then_grows program s t (try_begun ctx kind proc (args_of vals args) call t) one two) (omega (arith, new, two.more.ivars))
+effect_fits program ctx kinds prefix line (stmt.Throttle t k stop) s vals mon f h built g =
+    binds_fit program kinds s (with_throttle k stop s) vals Thr (value.Thr (length s.throttles)) f (fresh_grows program k stop s g)
+    (omega (arith, fresh_drawn k stop s))
+effect_fits program ctx kinds prefix line (stmt.Enqueue r t proc args) s vals mon f h built g =
+    let x : ℕ = name_in vals t
+    in dead_fits program kinds (throttle_at x s).dead s (body_begun x ctx proc (args_of vals args) s) vals f
+    (λ alive. begun_grows program x ctx proc (args_of vals args) s g mon (call_fits program (drawn s) kinds vals proc args f h.calls.0) alive)
+    (λ alive. begun_drawn program x ctx proc (args_of vals args) s g mon (call_fits program (drawn s) kinds vals proc args f h.calls.0) alive)
+effect_fits program ctx kinds prefix line (stmt.ThrottleDone r t) s vals mon f h built g =
+    let u : State = with_ivar s
+    in let one = ivar_grows program s g
+    in let two = awaited_bodies_grow program (name_in vals t) (next_ivar s) u one.fits (omega (arith, drawn_one s))
+    in binds_fit program kinds s (done_awaited (name_in vals t) (next_ivar s) u) vals Def (value.Def (next_ivar s)) f
+    (then_grows program s u (done_awaited (name_in vals t) (next_ivar s) u) one two) (omega (arith, drawn_one s, two.more.ivars))
 effect_fits program ctx kinds prefix line (stmt.Raise a) s vals mon f h built g = tt
 effect_fits program ctx kinds prefix line (stmt.Ret a) s vals mon f h built g = (returned_at (drawn s) kinds vals a f h.uses).1
 effect_fits program ctx kinds prefix line other s vals mon f h built g = absurd built

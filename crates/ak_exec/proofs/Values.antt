@@ -4,7 +4,7 @@ use Rattle.std.specs.Prelude.{pos, Option, Some, None, All, MatchOption}
 use Rattle.std.specs.List.{AllByRecursion, AllZip, Any as AnyOf, slice_get}
 use Rattle.std.proofs.lemmas.List.Elements.{All-from_recursion}
 use Rattle.ak_script.specs.declared.script.Kind.{Kind}
-use Rattle.ak_script.specs.declared.script.Kind.TheVariants.{Num, Ivar, Def, Mon, Event}
+use Rattle.ak_script.specs.declared.script.Kind.TheVariants.{Num, Ivar, Def, Mon, Thr, Event}
 use Rattle.ak_script.specs.Kinds.{Serves}
 use Rattle.ak_frames.specs.declared.value.Value.{Value}
 use Rattle.ak_frames.specs.declared.value.Value.TheVariants as value
@@ -12,11 +12,11 @@ use Rattle.ak_program.specs.declared.program.NumParam.{NumParam}
 use Rattle.ak_program.specs.declared.program.NumProc.{NumProc}
 use Rattle.ak_program.specs.declared.statement.NumAtom.{NumAtom}
 use Rattle.ak_program.specs.declared.statement.NumAtom.TheVariants.{Literal, Local}
+use Rattle.ak_program.specs.Programs.{local as used, number, returned, IsKnown, IsPassed, Takes, IsCallable, NumCallee}
+use Rattle.ak_machine.specs.Effect.{local, value_of, args_of, name_of, name_in}
+use Rattle.ak_state.specs.Reads.{IsNum, IsNumAt, IsDeferred, IsMonitor, IsThrottle, IsEvent, IsEventAt, IsBound, AreBound}
 use Rattle.ak_program.specs.declared.statement.NumChoice.{NumChoice}
-use Rattle.ak_program.specs.Programs.{NumCallee, local as used, number, returned, IsKnown, IsPassed, Takes, IsCallable}
-use Rattle.ak_machine.specs.Effect.{local, name_of, name_in, value_of, args_of}
 use Rattle.ak_machine.specs.Statement.{choosable}
-use Rattle.ak_state.specs.Reads.{IsNum, IsNumAt, IsDeferred, IsMonitor, IsEvent, IsEventAt, IsBound, AreBound}
 use Rattle.ak_state.specs.Drawn.{Drawn}
 use Rattle.ak_state.specs.Fits.{ValueFits, ValsFit, kinds_of, CallFits, numbers, ChoosableFits}
 use Rattle.ak_exec.specs.Typed.{IsReturned}
@@ -90,6 +90,14 @@ mon_at n kinds vals k f h = mon_value n (local vals k) (local_fits n kinds vals 
 event_value : (n : Drawn) (v : Value) → ValueFits n Event v → IsEvent v
 event_value n (value.Event e) f = tt
 event_value n v f = absurd f
+
+thr_value : (n : Drawn) (v : Value) → ValueFits n Thr v → IsThrottle n.throttles v
+thr_value n (value.Thr t) f = f
+thr_value n v f = absurd f
+
+pub thr_at : (n : Drawn) (kinds : List Kind) (vals : List Value) (k : ℕ) → ValsFit n kinds vals → IsKnown kinds (used k Thr)
+    → IsThrottle n.throttles (local vals k)
+thr_at n kinds vals k f h = thr_value n (local vals k) (local_fits n kinds vals k Thr f h).1
 
 pub event_at : (n : Drawn) (kinds : List Kind) (vals : List Value) (k : ℕ) → ValsFit n kinds vals → IsKnown kinds (used k Event)
     → IsEventAt vals k

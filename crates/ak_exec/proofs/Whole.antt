@@ -87,6 +87,7 @@ emptied_whole program config picked ran s s' e h = record {
         monitors = (record { next_errors = tt; actors = tt }, tt);
         purposes = tt;
         clock = record { yields = tt; alarms = tt; numbered = tt; few = omega arith };
+        throttles = tt;
       });
   picked = tt;
   held = subst (HeldBy program.procs []) (sym e) (none_held program.procs config.limit config.askers);

@@ -6,7 +6,7 @@ use Rattle.ak_program.specs.declared.program.NumProc.{NumProc}
 use Rattle.ak_program.specs.declared.statement.NumStmt.{NumStmt}
 use Rattle.ak_program.specs.declared.statement.NumStmt.TheVariants as stmt
 
--- numbers, ivars, handlers, choices, calls, yields, alarms, monitors and errors; not yet throttles, pipes and works
+-- numbers, ivars, handlers, choices, calls, yields, alarms, monitors, errors and throttles; not yet pipes and works
 abbrev pub IsBuiltStmt : NumStmt → Type 0
 IsBuiltStmt (stmt.Set x a op b) = Unit {0}
 IsBuiltStmt (stmt.Print a) = Unit {0}
@@ -34,6 +34,9 @@ IsBuiltStmt (stmt.NextError r m) = Unit {0}
 IsBuiltStmt (stmt.Raise a) = Unit {0}
 IsBuiltStmt (stmt.Send m a) = Unit {0}
 IsBuiltStmt (stmt.Try r proc args catch catch_args kind) = Unit {0}
+IsBuiltStmt (stmt.Throttle t k stop) = Unit {0}
+IsBuiltStmt (stmt.Enqueue r t proc args) = Unit {0}
+IsBuiltStmt (stmt.ThrottleDone r t) = Unit {0}
 IsBuiltStmt (stmt.Ret a) = Unit {0}
 IsBuiltStmt _ = ⊥
 

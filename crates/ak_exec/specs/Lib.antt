@@ -3,3 +3,4 @@ pub mod Steps
 pub mod Built
 pub mod Typed
 pub mod Worlds
+pub mod Throttled

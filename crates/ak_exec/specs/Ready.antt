@@ -6,7 +6,7 @@ use Rattle.ak_program.specs.declared.program.NumPrefix.TheVariants.{If, Unless}
 use Rattle.ak_program.specs.declared.statement.NumStmt.{NumStmt}
 use Rattle.ak_program.specs.declared.statement.NumStmt.TheVariants as stmt
 use Rattle.ak_machine.specs.State.{State}
-use Rattle.ak_state.specs.Reads.{IsNumAt, IsDeferredAt, AreDeferredsAt, AreChoicesAt, IsMonitorAt, IsEventAt, IsBound, AreBound}
+use Rattle.ak_state.specs.Reads.{IsNumAt, IsDeferredAt, IsMonitorAt, IsThrottleAt, IsEventAt, IsBound, AreBound, AreDeferredsAt, AreChoicesAt}
 
 -- the number of a prefix
 abbrev pub IsTold : List Value → Option NumPrefix → Type 0
@@ -42,5 +42,8 @@ IsReady s vals (stmt.NextError r m) = IsMonitorAt s vals m
 IsReady s vals (stmt.Raise a) = IsNumAt vals a
 IsReady s vals (stmt.Send m a) = IsMonitorAt s vals m × IsNumAt vals a
 IsReady s vals (stmt.Try r proc args catch catch_args kind) = AreBound vals args × AreBound vals catch_args
+IsReady s vals (stmt.Throttle t k stop) = 1 ≤ k
+IsReady s vals (stmt.Enqueue r t proc args) = IsThrottleAt s vals t × AreBound vals args
+IsReady s vals (stmt.ThrottleDone r t) = IsThrottleAt s vals t
 IsReady s vals (stmt.Ret a) = IsBound (length vals) a
 IsReady s vals other = ⊥

@@ -63,6 +63,9 @@ fn is_built(stmt: &NumStmt) -> bool
             | NumStmt::Raise { .. }
             | NumStmt::Send { .. }
             | NumStmt::Try { .. }
+            | NumStmt::Throttle { .. }
+            | NumStmt::Enqueue { .. }
+            | NumStmt::ThrottleDone { .. }
             | NumStmt::Ret { .. }
     )
 }

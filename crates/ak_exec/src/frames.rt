@@ -106,6 +106,15 @@ pub fn run_task(
             parts.end_try(guard, number_of(value))?;
             Ok(Flow::On)
         }
+        Frame::BodyDone { body } => {
+            parts.end_body(&body, number_of(value))?;
+            Ok(Flow::On)
+        }
+        Frame::BodyFailed { body, num } => {
+            parts.fail_body(&body)?;
+            parts.send(ctx.mon, num)
+        }
+        Frame::Raise { num } => parts.send(ctx.mon, num),
         _ => unreachable!(),
     }
 }

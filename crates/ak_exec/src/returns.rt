@@ -12,7 +12,7 @@ ghost use Rattle.ak_state.specs.Reads.{value_named, ret_named};
 
 use ak_base::list::NoMemory;
 use ak_base::number::{GroupNo, IvarNo, Num};
-use ak_frames::frame::Ret;
+use ak_frames::frame::{BodyId, Ret};
 use ak_frames::value::Value;
 use ak_state::parts::Parts;
 
@@ -87,6 +87,32 @@ fn await_value(parts: &mut Parts, g: GroupNo, i: IvarNo) -> Result<(), NoMemory>
     parts.await_try(g, i)
 }
 
+/// A value is returned to a body of a throttle.
+fn return_to_body(parts: &mut Parts, b: &BodyId, value: Value) -> Result<(), NoMemory>
+    requires value { IsReturned (drawn parts.old.plain) (value_named parts.old value) }
+    requires fits { FitsSome parts.old.plain }
+    ensures { OnOk result (parts.new.plain
+        ≡ returned_by (Ret.ThrottleBody b.now) (value_named parts.old value) parts.old.plain) }
+{
+    match value {
+        Value::Num(num) => parts.end_body(b, num),
+        Value::Ivar(i) => await_result(parts, b, i),
+        Value::Def(i) => await_result(parts, b, i),
+        _ => unreachable!(),
+    }
+}
+
+/// A body waits for a deferred.
+fn await_result(parts: &mut Parts, b: &BodyId, i: IvarNo) -> Result<(), NoMemory>
+    requires { name_in parts.old.names i < length parts.old.plain.cells.ivars }
+    ensures { OnOk result (parts.new.plain
+        ≡ returned_by (Ret.ThrottleBody b.now) (Value.Def (name_in parts.old.names i))
+        parts.old.plain) }
+{
+    parts.check_drawn(i);
+    parts.await_body(b, i)
+}
+
 /// A procedure returns.
 pub fn returned(parts: &mut Parts, ret: Ret, value: Value) -> Result<(), NoMemory>
     requires ret { RetFits (drawn parts.old.plain)
@@ -103,6 +129,6 @@ pub fn returned(parts: &mut Parts, ret: Ret, value: Value) -> Result<(), NoMemor
         Ret::Drop => Ok(()),
         Ret::To(r) => return_value(parts, r, value),
         Ret::TryBody(guard) => return_to_guard(parts, guard, value),
-        _ => unreachable!(),
+        Ret::ThrottleBody(body) => return_to_body(parts, &body, value),
     }
 }

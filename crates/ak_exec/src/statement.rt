@@ -11,6 +11,7 @@ use crate::statements::deferred::{bind, fill, ivar, never, offer, upon};
 use crate::statements::groups::{all, any, choose, try_body};
 use crate::statements::jobs::{call, raise, ret};
 use crate::statements::monitors::{detach, monitor, next_error, on_error, send, within};
+use crate::statements::throttles::{enqueue, throttle, throttle_done};
 use crate::statements::values::{print, set};
 use ak_base::list::NoMemory;
 use ak_base::number::{Ctx, Num};
@@ -82,6 +83,9 @@ pub fn run_statement(
             catch_args,
             mode,
         } => try_body(parts, ctx, vals, *r, *proc, args, *catch, catch_args, *mode),
+        NumStmt::Throttle { t, k, stop } => throttle(parts, ctx, vals, *t, *k, *stop),
+        NumStmt::Enqueue { r, t, proc, args } => { enqueue(parts, ctx, vals, *r, *t, *proc, args) }
+        NumStmt::ThrottleDone { r, t } => throttle_done(parts, ctx, vals, *r, *t),
         NumStmt::Raise { a } => raise(parts, ctx, vals, *a),
         NumStmt::Ret { a } => ret(parts, ctx, vals, *a),
         _ => unreachable!(),

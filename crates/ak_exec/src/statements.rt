@@ -5,4 +5,5 @@ pub mod deferred;
 pub mod groups;
 pub mod jobs;
 pub mod monitors;
+pub mod throttles;
 pub mod values;

@@ -8,6 +8,7 @@ ghost use Rattle.ak_machine.specs.Cycle.{cycle_begun, has_more, is_stuck, is_qui
 ghost use Rattle.ak_machine.specs.Deferred.{noting};
 ghost use Rattle.ak_exec.specs.Built.{AreBuilt};
 ghost use Rattle.ak_state.specs.Errors.{Ends};
+ghost use Rattle.ak_exec.specs.Throttled.{ThrottlesHold};
 ghost use Rattle.ak_exec.specs.Worlds.{with_pick, with_state, first_state, ServesAskers, RunsJob};
 
 use crate::job::run_job;
@@ -187,6 +188,15 @@ pub fn stuck(world: &World) -> bool
     ensures { result ≡ is_stuck world.now.config.threads world.now.plain }
 {
     world.parts.is_stuck(world.config.threads)
+}
+
+/// At most so many bodies of each throttle run at once, and those that have started are the first ones, in the order of their
+/// numbers: a law of every world, and so of every run.
+pub fn throttles_hold(world: &World)
+    ensures { ThrottlesHold world.now.plain }
+{
+    // For the proof alone: what every world keeps.
+    let _parts = &world.parts;
 }
 
 /// Keeps how many askers are left, as the last reply to a drain says.

@@ -1,3 +1,4 @@
 mod Steps
 pub mod Kept
 pub mod Order
+pub mod Calls

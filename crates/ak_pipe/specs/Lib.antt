@@ -2,3 +2,4 @@ pub mod Pipe
 pub mod Kept
 pub mod Story
 pub mod Runs
+pub mod Calls

@@ -63,14 +63,13 @@ impl<R> Pipe<R> {
         }
     }
 
-    /// Writes a number, of fewer than 4,294,967,295 that were written before: the oldest waiting read takes it and comes
-    /// back, exactly where one waits; else it is the last item.
+    /// Writes a number: the oldest waiting read takes it and comes back, exactly where one waits; else it is the last item.
     ///
     /// # Errors
     ///
-    /// `Closed` exactly where the pipe is closed, and else `NoMemory`. Nothing has changed.
+    /// `Closed` exactly where the pipe is closed, and else `NoMemory`, also where 4,294,967,295 numbers were written before.
+    /// Nothing has changed.
     pub fn put(&mut self, num: Num) -> Result<Option<R>, PutRefused>
-        requires { length self.old.written < 2 ^ 32 - 1 }
         ensures served { IfOk result (λ served. served ≡ plain.taker_of self.old) }
         ensures ok { OnOk result (self.new ≡ plain.put num self.old) }
         ensures refused { IfErr result (λ r. r ≡ plain.put_refusal self.old) }
@@ -79,6 +78,8 @@ impl<R> Pipe<R> {
     {
         if self.closed {
             Err(PutRefused::Closed)
+        } else if self.written == u32::MAX {
+            Err(PutRefused::NoMemory)
         } else if self.reads.is_empty() {
             self.put_item(num)
         } else {
@@ -91,9 +92,9 @@ impl<R> Pipe<R> {
     ///
     /// # Errors
     ///
-    /// `Closed` exactly where the pipe is closed, and else `NoMemory`. Nothing has changed.
+    /// `Closed` exactly where the pipe is closed, and else `NoMemory`, also where 4,294,967,295 numbers were written before.
+    /// Nothing has changed.
     pub fn write(&mut self, num: Num, i: IvarNo) -> Result<Wrote<R>, PutRefused>
-        requires { length self.old.written < 2 ^ 32 - 1 }
         ensures wrote { IfOk result (λ w. w ≡ plain.wrote num self.old) }
         ensures ok { OnOk result (self.new ≡ plain.after_write num i self.old) }
         ensures refused { IfErr result (λ r. r ≡ plain.put_refusal self.old) }
@@ -102,6 +103,8 @@ impl<R> Pipe<R> {
     {
         if self.is_closed() {
             Err(PutRefused::Closed)
+        } else if self.written == u32::MAX {
+            Err(PutRefused::NoMemory)
         } else if self.reads.is_empty() {
             self.write_item(num, i)
         } else {

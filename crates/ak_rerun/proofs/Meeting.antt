@@ -204,8 +204,8 @@ ends_together program config history s trace waits law legal named ends closed i
               trace_is = ap (λ (r : Run). r.trace) over ∙ ends.trace_is;
               asks_are = ap (λ (r : Run). r.asks) over ∙ (ends.asks_are ∙ (asked ∙ sym both.0));
               once = start_once config.threads config.askers trace history legal (λ before is.
-                ap (λ l. outstanding l (replies config.askers history)) (both.0 ∙ sym asked)
-                ∙ (ap (outstanding (asked_of s)) (both.1 ∙ sym r.answers) ∙ idle (before, is)));
+                  ap (λ l. outstanding l (replies config.askers history)) (both.0 ∙ sym asked)
+                  ∙ (ap (outstanding (asked_of s)) (both.1 ∙ sym r.answers) ∙ idle (before, is)));
             }
 
 -- ---- the run departs from the record

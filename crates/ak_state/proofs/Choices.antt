@@ -191,6 +191,7 @@ choice_decided_grows program g s f =
       monitors = one.fits.monitors;
       purposes = one.fits.purposes;
       clock = one.fits.clock;
+      throttles = one.fits.throttles;
     })
     in let three = regrouped_grows program (groups.without_notes g v.groups) v (parts_set v.groups g _ refl) two.fits
     in then_grows program s u (choice_decided g s) one (then_grows program u v (choice_decided g s) two three)

@@ -11,6 +11,7 @@ use Rattle.ak_cells.specs.declared.registration.Registration.{Registration}
 use Rattle.ak_cells.specs.Cells.{waiting_on, filled}
 use Rattle.ak_frames.specs.declared.value.Value.{Value}
 use Rattle.ak_frames.specs.declared.value.Value.TheVariants.{Num}
+use Rattle.ak_frames.specs.declared.frame.BodyId.{BodyId}
 use Rattle.ak_frames.specs.declared.frame.Ret.TheVariants.{Drop}
 use Rattle.ak_frames.specs.declared.frame.Frame.{Frame}
 use Rattle.ak_frames.specs.declared.frame.Frame.TheVariants.{Call}
@@ -24,10 +25,13 @@ use Rattle.ak_monitor.specs.Monitors.{Monitor, monitor_in, without_next_errors, 
 use Rattle.ak_program.specs.declared.program.NumProc.{NumProc}
 use Rattle.ak_script.specs.declared.statement.GuardMode.TheVariants as mode
 use Rattle.ak_machine.specs.declared.held.Handler.{Handler}
-use Rattle.ak_machine.specs.declared.held.Handler.TheVariants.{OnError, OfGuard}
+use Rattle.ak_machine.specs.declared.held.Handler.TheVariants.{OnError, OfGuard, OfBody}
 use Rattle.ak_machine.specs.declared.held.Purpose.{Purpose}
 use Rattle.ak_machine.specs.declared.held.Purpose.TheVariants.{ForGuard}
+use Rattle.ak_machine.specs.declared.held.Fate.{Fate}
+use Rattle.ak_machine.specs.declared.held.Fate.TheVariants.{Undecided, Failing, Over}
 use Rattle.ak_machine.specs.State.{State}
+use Rattle.ak_machine.specs.Throttles.{started_at, acts_at}
 use Rattle.ak_machine.specs.Mapped.{values_mapped, handler_mapped, handled_mapped, monitor_mapped}
 use Rattle.ak_machine.specs.Deferred.{noting, enqueue, plain_task, woken_by, number_at, fill_at, fill, filled_with}
 use Rattle.ak_machine.specs.Groups.{group_at, purpose_at, guard_catches}
@@ -35,12 +39,13 @@ use Rattle.ak_machine.specs.Errors.{next_errors_filled, handler_acts, handled, c
 use Rattle.ak_state.specs.Seen.{Seen, seen, doing}
 use Rattle.ak_state.specs.Drawn.{drawn}
 use Rattle.ak_state.specs.Fits.{ActorFits, Fits, FitsSome}
-use Rattle.ak_state.specs.declared.parts.errors.Reaction.TheVariants.{Calls, Tells}
+use Rattle.ak_state.specs.declared.parts.errors.Reaction.TheVariants.{Calls, Tells, TellsBody}
 use Rattle.ak_state.specs.Errors.{AreDrawn, all_filled, path_filled, handlers_of, handler_of, acted_by, acted_at, reacted}
 use Rattle.ak_state.proofs.Stands.{seen_as}
 use Rattle.ak_state.proofs.Fitting.{Grows, kept_grows, then_grows, noted_grows, enqueue_grows, all_filled_grow, all_by, all_get, actor_grows, value_call, fill_drawn}
 use Rattle.ak_state.proofs.Monitors.{monitor_in_mapped, seen_emptied, all_in, emptied_grows}
 use Rattle.ak_state.proofs.Groups.{guard_acts_grows}
+use Rattle.ak_state.proofs.Ends.{body_acts_grows}
 
 -- ---- the path of a monitor is one, whatever waits for errors
 abbrev parents : List (Monitor Handler) → List ℕ
@@ -265,11 +270,16 @@ catches_handlers (ForGuard ctx m mode.Raise catch) false g e c s =
 catches_handlers (ForGuard ctx m kind catch) true g e c s = refl
 catches_handlers x b g e c s = refl
 
+acts_handlers : (fate : Fate) (b : BodyId) (e : ℤ) (c : ℕ) (s : State) → handlers_of c (acts_at fate b e s) ≡ handlers_of c s
+acts_handlers Undecided b e c s = refl
+acts_handlers Failing b e c s = refl
+acts_handlers Over b e c s = refl
+
 one_handlers : (program : List NumProc) (e : ℤ) (h : Ctx × Handler) (c : ℕ) (s : State) → ActorFits program (drawn s) h
     → handlers_of c (handler_acts e s h) ≡ handlers_of c s
 one_handlers program e (ctx, OnError proc vals) c s f = refl
 one_handlers program e (ctx, OfGuard g) c s f = catches_handlers (purpose_at g s) (group_at g s).decided g e c s
-one_handlers program e (ctx, x) c s f = absurd f.act
+one_handlers program e (ctx, OfBody b) c s f = acts_handlers (started_at b s).fate b e c s
 
 one_grows : (program : List NumProc) (e : ℤ) (s : State) (h : Ctx × Handler) → Fits program s → ActorFits program (drawn s) h
     → Grows program s (handler_acts e s h)
@@ -277,7 +287,7 @@ one_grows program e s (ctx, OnError proc vals) f p =
     enqueue_grows program ctx (plain_task (Call proc (Num e ∷ vals) Drop)) s f
     (record { monitor = p.monitor; frame_fits = (value_call program (drawn s) proc e vals p.act, tt) })
 one_grows program e s (ctx, OfGuard g) f p = guard_acts_grows program g e s f p.act
-one_grows program e s (ctx, x) f p = absurd p.act
+one_grows program e s (ctx, OfBody b) f p = body_acts_grows program b e s f
 
 -- the handler of a number fits
 pub handler_fits : (program : List NumProc) (c k : ℕ) (h : Ctx × Handler) (s : State) → Fits program s → handler_of c k s ≡ Some h
@@ -383,7 +393,11 @@ pub tells_as : (f : ℕ → ℕ) (e : ℤ) (h : Ctx × Handler) (g : ℕ) (o : O
     → reacted f e (Tells g) s ≡ acted_by e o s
 tells_as f e h g o p q s = sym (ap (λ x. acted_by e x s) p ∙ ap (λ x. acted_by e (Some (h.0, handler_mapped f x)) s) q)
 
--- where all fits, no handler tells a body
+pub tells_body_as : (f : ℕ → ℕ) (e : ℤ) (h : Ctx × Handler) (b : BodyId) (o : Option (Ctx × Handler)) → o ≡ Some (handled_mapped f h)
+    → h.1 ≡ OfBody b → (s : State) → reacted f e (TellsBody b) s ≡ acted_by e o s
+tells_body_as f e h b o p q s = sym (ap (λ x. acted_by e x s) p ∙ ap (λ x. acted_by e (Some (h.0, handler_mapped f x)) s) q)
+
+-- where all fits, a handler fits
 pub calls_or_tells : (c k : ℕ) (h : Ctx × Handler) (s : State) (f : FitsSome s) → handler_of c k s ≡ Some h → ActorFits f.program (drawn s) h
 calls_or_tells c k h s f e = handler_fits f.program c k h s f.fits e
 

@@ -1,6 +1,6 @@
 -- Changes of ivars and jobs leave what fits.
 use Rattle.std.proofs.Common.{◌≡◌, ℕ, zero, suc, ◌+◌, ◌<◌, ◌≤◌, List, [], ◌∷◌, ◌++◌, length, map, refl, ap, subst, sym, ◌∙◌, arith, Bool, true, false, cond}
-use Rattle.std.specs.Prelude.{ℤ, pos, Option, Some, None, MatchOption, fold, filter, slice_index_or, ◌==◌}
+use Rattle.std.specs.Prelude.{ℤ, pos, Option, Some, None, MatchOption, fold, filter, ◌==◌, slice_index_or}
 use Rattle.std.specs.List.{AllByRecursion, AllZip, slice_get}
 use Rattle.std.proofs.lemmas.List.{length-append, length-map}
 use Rattle.std.proofs.Math.ListN.{length-set}
@@ -22,26 +22,33 @@ use Rattle.ak_cells.specs.Cells.{is_on, is_off, filled, waiting_on}
 use Rattle.ak_frames.specs.declared.value.Value.{Value}
 use Rattle.ak_frames.specs.declared.value.Value.TheVariants as value
 use Rattle.ak_frames.specs.declared.frame.Ret.{Ret}
-use Rattle.ak_frames.specs.declared.frame.Ret.TheVariants.{Drop, To, TryBody}
+use Rattle.ak_frames.specs.declared.frame.Ret.TheVariants.{Drop, To, TryBody, ThrottleBody}
 use Rattle.ak_frames.specs.declared.frame.Frame.{Frame}
-use Rattle.ak_frames.specs.declared.frame.Frame.TheVariants.{Call, OnValue, AllPart, ChoicePart, TryDone}
+use Rattle.ak_frames.specs.declared.frame.Frame.TheVariants.{Call, OnValue, TryDone, BodyDone, BodyFailed, Raise, AllPart, ChoicePart}
 use Rattle.ak_frames.specs.declared.frame.Task.{Task}
 use Rattle.ak_trace.specs.declared.entry.Entry.{Entry}
 use Rattle.ak_trace.specs.declared.entry.Entry.TheVariants as entry
+use Rattle.ak_throttle.specs.declared.stage.Stage.{Stage}
+use Rattle.ak_throttle.specs.declared.stage.Stage.TheVariants.{Waiting, Running}
+use Rattle.ak_throttle.specs.declared.stage.Mark.{Mark}
+use Rattle.ak_throttle.specs.Throttle.{Throttle}
 use Rattle.ak_program.specs.declared.program.NumProc.{NumProc}
 use Rattle.ak_monitor.specs.Monitors.{Monitor}
 use Rattle.ak_machine.specs.declared.held.Choosable.{Choosable}
 use Rattle.ak_machine.specs.declared.held.Handler.{Handler}
-use Rattle.ak_machine.specs.declared.held.Handler.TheVariants.{OnError, OfGuard}
+use Rattle.ak_machine.specs.declared.held.Handler.TheVariants.{OnError, OfGuard, OfBody}
 use Rattle.ak_machine.specs.declared.held.Purpose.{Purpose}
-use Rattle.ak_machine.specs.declared.held.Purpose.TheVariants.{ForAll, ForAny, ForChoice, ForGuard}
+use Rattle.ak_machine.specs.declared.held.Purpose.TheVariants.{ForGuard, ForAll, ForAny, ForChoice}
+use Rattle.ak_machine.specs.declared.held.Body.{Body}
+use Rattle.ak_machine.specs.declared.held.Started.{Started}
 use Rattle.ak_machine.specs.State.{State}
 use Rattle.ak_machine.specs.Alarms.{yields_filled, alarm_filled, alarms_filled}
 use Rattle.ak_machine.specs.Cycle.{cycle_begun}
 use Rattle.ak_machine.specs.Deferred.{noting, enqueue, woken_task, with_ivar, woken_by, number_at, fill_empty, fill_at, fill, filled_with, register_at, register, connect_at, connect}
-use Rattle.ak_machine.specs.Mapped.{value_mapped, values_mapped, ret_mapped, frame_mapped, job_mapped, registration_mapped, handler_mapped, handled_mapped, monitor_mapped, choosable_mapped, purpose_mapped, alarm_mapped, clock_mapped, state_renamed}
-use Rattle.ak_state.specs.Drawn.{Drawn, drawn, parts_of, More}
-use Rattle.ak_state.specs.Fits.{ValueFits, ValsFit, kinds_of, RetFits, CallFits, ValueCallFits, FrameFits, HeldFits, JobFits, HandlerFits, ActFits, ActorFits, MonitorFits, numbers, ChoosableFits, PurposeFits, AlarmFits, ClockFits, StateFits, Fits}
+use Rattle.ak_machine.specs.Mapped.{value_mapped, values_mapped, ret_mapped, frame_mapped, job_mapped, registration_mapped, handler_mapped, handled_mapped, monitor_mapped, purpose_mapped, body_mapped, stage_mapped, mark_mapped, throttle_mapped, started_mapped, all_started_mapped, alarm_mapped, clock_mapped, state_renamed, choosable_mapped}
+use Rattle.ak_state.specs.Drawn.{Drawn, drawn, More, parts_of}
+use Rattle.ak_state.specs.Fits.{ValueFits, ValsFit, kinds_of, RetFits, CallFits, ValueCallFits, FrameFits, HeldFits, JobFits, HandlerFits, ActFits, ActorFits, MonitorFits, PurposeFits, AlarmFits, ClockFits, BodyFits, StageFits, MarkFits, StartedFits, ThrottleFits, StateFits, Fits, numbers, ChoosableFits}
+use Rattle.ak_state.proofs.Started.{started_so_many, stand_mapped}
 
 -- ---- lists
 all_map : {A B : Type 0} (P : A → Type 0) (Q : B → Type 0) (f : A → B) (h : (x : A) → P x → Q (f x)) (xs : List A) → AllByRecursion P xs
@@ -61,24 +68,31 @@ all_filter P p (x ∷ xs) h = into (p x) (all_filter P p xs h.1)
     into true q = (h.0, q)
     into false q = q
 
+zip_map : {A B C D : Type 0} (P : A → B → Type 0) (Q : C → D → Type 0) (g : A → C) (h : B → D)
+    → ((x : A) (y : B) → P x y → Q (g x) (h y)) → (xs : List A) (ys : List B) → AllZip P xs ys → AllZip Q (map g xs) (map h ys)
+zip_map P Q g h e [] [] z = tt
+zip_map P Q g h e [] (y ∷ ys) z = absurd z
+zip_map P Q g h e (x ∷ xs) [] z = absurd z
+zip_map P Q g h e (x ∷ xs) (y ∷ ys) z = (e x y z.0, zip_map P Q g h e xs ys z.1)
+
+zip_by : {A B : Type 0} (P Q : A → B → Type 0) → ((x : A) (y : B) → P x y → Q x y) → (xs : List A) (ys : List B) → AllZip P xs ys → AllZip Q xs ys
+zip_by P Q e [] [] z = tt
+zip_by P Q e [] (y ∷ ys) z = absurd z
+zip_by P Q e (x ∷ xs) [] z = absurd z
+zip_by P Q e (x ∷ xs) (y ∷ ys) z = (e x y z.0, zip_by P Q e xs ys z.1)
+
 pub all_get : {A : Type 0} (P : A → Type 0) (xs : List A) (k : ℕ) (x : A) → AllByRecursion P xs → slice_get xs k ≡ Some x → P x
 all_get P [] k x h e = absurd (cc)
 all_get P (y ∷ ys) zero x h e = let same : y ≡ x = cc in subst P same h.0
 all_get P (y ∷ ys) (suc k) x h e = all_get P ys k x h.1 e
 
 -- ---- two lists, place by place
-zip_by : {A B : Type 0} (P Q : A → B → Type 0) (h : (x : A) (y : B) → P x y → Q x y) (xs : List A) (ys : List B) → AllZip P xs ys → AllZip Q xs ys
-zip_by P Q h [] [] p = tt
-zip_by P Q h (x ∷ xs) (y ∷ ys) p = (h x y p.0, zip_by P Q h xs ys p.1)
-zip_by P Q h [] (y ∷ ys) p = absurd p
-zip_by P Q h (x ∷ xs) [] p = absurd p
-
-zip_map : {A B : Type 0} (P : A → B → Type 0) (f : B → B) (h : (x : A) (y : B) → P x y → P x (f y)) (xs : List A) (ys : List B) → AllZip P xs ys
+zip_right : {A B : Type 0} (P : A → B → Type 0) (f : B → B) (h : (x : A) (y : B) → P x y → P x (f y)) (xs : List A) (ys : List B) → AllZip P xs ys
     → AllZip P xs (map f ys)
-zip_map P f h [] [] p = tt
-zip_map P f h (x ∷ xs) (y ∷ ys) p = (h x y p.0, zip_map P f h xs ys p.1)
-zip_map P f h [] (y ∷ ys) p = absurd p
-zip_map P f h (x ∷ xs) [] p = absurd p
+zip_right P f h [] [] p = tt
+zip_right P f h (x ∷ xs) (y ∷ ys) p = (h x y p.0, zip_right P f h xs ys p.1)
+zip_right P f h [] (y ∷ ys) p = absurd p
+zip_right P f h (x ∷ xs) [] p = absurd p
 
 pub zip_push : {A B : Type 0} (P : A → B → Type 0) (xs : List A) (ys : List B) (x : A) (y : B) → AllZip P xs ys → P x y
     → AllZip P (xs ++ x ∷ []) (ys ++ y ∷ [])
@@ -102,7 +116,7 @@ zip_long P (x ∷ xs) [] p = absurd p
 
 -- ---- as much is drawn, or more
 pub same_more : (n : Drawn) → More n n
-same_more n = record { ivars = omega arith; monitors = omega arith; groups = omega arith; parts = λ g. omega arith }
+same_more n = record { ivars = omega arith; monitors = omega arith; groups = omega arith; parts = λ g. omega arith; throttles = omega arith }
 
 pub more_more : (n n' n'' : Drawn) → More n n' → More n' n'' → More n n''
 more_more n n' n'' h k = record {
@@ -110,6 +124,7 @@ more_more n n' n'' h k = record {
   monitors = omega (arith, h.monitors, k.monitors);
   groups = omega (arith, h.groups, k.groups);
   parts = λ g. omega (arith, h.parts g, k.parts g);
+  throttles = omega (arith, h.throttles, k.throttles);
 }
 
 -- ---- what fits goes on fitting as more is drawn
@@ -119,11 +134,13 @@ value_grows n n' Ivar (value.Ivar i) h f = omega (arith, h.ivars, f)
 value_grows n n' Def (value.Ivar i) h f = omega (arith, h.ivars, f)
 value_grows n n' Def (value.Def i) h f = omega (arith, h.ivars, f)
 value_grows n n' Mon (value.Mon m) h f = omega (arith, h.monitors, f)
+value_grows n n' Thr (value.Thr t) h f = omega (arith, h.throttles, f)
 value_grows n n' Event (value.Event e) h f = tt
 value_grows n n' Num v h f = absurd f
 value_grows n n' Ivar v h f = absurd f
 value_grows n n' Def v h f = absurd f
 value_grows n n' Mon v h f = absurd f
+value_grows n n' Thr v h f = absurd f
 value_grows n n' Event v h f = absurd f
 value_grows n n' kind v h f = absurd f
 
@@ -137,7 +154,7 @@ pub ret_grows : (n n' : Drawn) (r : Ret) → More n n' → RetFits n r → RetFi
 ret_grows n n' Drop h f = tt
 ret_grows n n' (To i) h f = omega (arith, h.ivars, f)
 ret_grows n n' (TryBody g) h f = omega (arith, h.groups, f)
-ret_grows n n' r h f = absurd f
+ret_grows n n' (ThrottleBody b) h f = tt
 
 call_grows : (o : Option NumProc) (n n' : Drawn) (vals : List Value) → More n n' → MatchOption o ⊥ (λ (p : NumProc). ValsFit n (kinds_of p.params) vals)
     → MatchOption o ⊥ (λ (p : NumProc). ValsFit n' (kinds_of p.params) vals)
@@ -154,6 +171,9 @@ frame_grows program n n' h (OnValue proc vals ret) f = (call_grows (slice_get pr
 frame_grows program n n' h (AllPart g k) f = omega (arith, h.parts g, f)
 frame_grows program n n' h (ChoicePart g) f = omega (arith, h.groups, f)
 frame_grows program n n' h (TryDone g) f = omega (arith, h.groups, f)
+frame_grows program n n' h (BodyDone b) f = tt
+frame_grows program n n' h (BodyFailed b e) f = tt
+frame_grows program n n' h (Raise e) f = tt
 frame_grows program n n' h frame f = absurd f
 
 pub held_grows : (program : List NumProc) (n n' : Drawn) → More n n' → (ctx : Ctx) (frame : Frame) → HeldFits program n ctx frame
@@ -163,7 +183,7 @@ held_grows program n n' h ctx frame f = record { monitor = omega (arith, h.monit
 act_grows : (program : List NumProc) (n n' : Drawn) → More n n' → (x : Handler) → ActFits program n x → ActFits program n' x
 act_grows program n n' h (OnError proc vals) f = call_grows (slice_get program proc) n n' (value.Num (pos 0) ∷ vals) h f
 act_grows program n n' h (OfGuard g) f = omega (arith, h.groups, f)
-act_grows program n n' h x f = absurd f
+act_grows program n n' h (OfBody b) f = tt
 
 pub actor_grows : (program : List NumProc) (n n' : Drawn) → More n n' → (x : Ctx × Handler) → ActorFits program n x → ActorFits program n' x
 actor_grows program n n' h x f = record { monitor = omega (arith, h.monitors, f.monitor); act = act_grows program n n' h x.1 f.act }
@@ -214,6 +234,35 @@ clock_grows n n' h c f = record {
   few = omega (arith, h.ivars, f.few);
 }
 
+body_grows : (program : List NumProc) (n n' : Drawn) → More n n' → (x : Body) → BodyFits program n x → BodyFits program n' x
+body_grows program n n' h x f = record {
+  context = omega (arith, h.monitors, f.context);
+  call = call_grows (slice_get program x.call.proc) n n' x.call.vals h f.call;
+  result = omega (arith, h.ivars, f.result);
+}
+
+stage_grows : (program : List NumProc) (n n' : Drawn) → More n n' → (x : Stage Body) → StageFits program n x → StageFits program n' x
+stage_grows program n n' h (Waiting body) f = body_grows program n n' h body f
+stage_grows program n n' h x f = f
+
+mark_grows : (n n' : Drawn) → More n n' → (x : Mark) → MarkFits n x → MarkFits n' x
+mark_grows n n' h x f = omega (arith, h.ivars, f)
+
+started_grows : (n n' : Drawn) → More n n' → (x : Started) → StartedFits n x → StartedFits n' x
+started_grows n n' h x f = record { context = omega (arith, h.monitors, f.context); result = omega (arith, h.ivars, f.result) }
+
+pub throttle_grows : (program : List NumProc) (n n' : Drawn) → More n n' → (x : Throttle Body) (started : List Started)
+    → ThrottleFits program n x started → ThrottleFits program n' x started
+throttle_grows program n n' h x started f = record {
+  waiting = all_by (StageFits program n) (StageFits program n') (stage_grows program n n' h) x.bodies f.waiting;
+  dropped = all_by (BodyFits program n) (BodyFits program n') (body_grows program n n' h) x.dropped f.dropped;
+  marks = all_by (MarkFits n) (MarkFits n') (mark_grows n n' h) x.marks f.marks;
+  bodies = all_by (StartedFits n) (StartedFits n') (started_grows n n' h) started f.bodies;
+  so_many = f.so_many;
+  stand = f.stand;
+  few = omega (arith, h.ivars, f.few);
+}
+
 -- ---- and as names change within the range
 value_mapped_fits : (g : ℕ → ℕ) (n : Drawn) → ((i : ℕ) → i < n.ivars → g i < n.ivars) → (kind : Kind) (v : Value) → ValueFits n kind v
     → ValueFits n kind (value_mapped g v)
@@ -222,11 +271,13 @@ value_mapped_fits g n h Ivar (value.Ivar i) f = h i f
 value_mapped_fits g n h Def (value.Ivar i) f = h i f
 value_mapped_fits g n h Def (value.Def i) f = h i f
 value_mapped_fits g n h Mon (value.Mon m) f = f
+value_mapped_fits g n h Thr (value.Thr t) f = f
 value_mapped_fits g n h Event (value.Event e) f = tt
 value_mapped_fits g n h Num v f = absurd f
 value_mapped_fits g n h Ivar v f = absurd f
 value_mapped_fits g n h Def v f = absurd f
 value_mapped_fits g n h Mon v f = absurd f
+value_mapped_fits g n h Thr v f = absurd f
 value_mapped_fits g n h Event v f = absurd f
 value_mapped_fits g n h kind v f = absurd f
 
@@ -247,7 +298,7 @@ ret_mapped_fits : (g : ℕ → ℕ) (n : Drawn) → ((i : ℕ) → i < n.ivars �
 ret_mapped_fits g n h Drop f = tt
 ret_mapped_fits g n h (To i) f = h i f
 ret_mapped_fits g n h (TryBody x) f = f
-ret_mapped_fits g n h r f = absurd f
+ret_mapped_fits g n h (ThrottleBody b) f = tt
 
 frame_mapped_fits : (program : List NumProc) (g : ℕ → ℕ) (n : Drawn) → ((i : ℕ) → i < n.ivars → g i < n.ivars) → (frame : Frame)
     → FrameFits program n frame → FrameFits program n (frame_mapped g frame)
@@ -257,6 +308,9 @@ frame_mapped_fits program g n h (OnValue proc vals ret) f =
 frame_mapped_fits program g n h (AllPart x k) f = f
 frame_mapped_fits program g n h (ChoicePart x) f = f
 frame_mapped_fits program g n h (TryDone x) f = f
+frame_mapped_fits program g n h (BodyDone b) f = tt
+frame_mapped_fits program g n h (BodyFailed b e) f = tt
+frame_mapped_fits program g n h (Raise e) f = tt
 frame_mapped_fits program g n h frame f = absurd f
 
 held_mapped : (program : List NumProc) (g : ℕ → ℕ) (n : Drawn) → ((i : ℕ) → i < n.ivars → g i < n.ivars) → (ctx : Ctx) (frame : Frame)
@@ -267,7 +321,7 @@ act_mapped : (program : List NumProc) (g : ℕ → ℕ) (n : Drawn) → ((i : �
     → ActFits program n (handler_mapped g x)
 act_mapped program g n h (OnError proc vals) f = call_mapped_fits (slice_get program proc) g n h (value.Num (pos 0) ∷ vals) f
 act_mapped program g n h (OfGuard x) f = f
-act_mapped program g n h x f = absurd f
+act_mapped program g n h (OfBody b) f = tt
 
 monitor_fits_mapped : (program : List NumProc) (g : ℕ → ℕ) (n : Drawn) → ((i : ℕ) → i < n.ivars → g i < n.ivars) → (m : Monitor Handler)
     → MonitorFits program n m → MonitorFits program n (monitor_mapped g m)
@@ -319,6 +373,34 @@ clock_fits_mapped g n h c f = record {
   few = f.few;
 }
 
+body_fits_mapped : (program : List NumProc) (g : ℕ → ℕ) (n : Drawn) → ((i : ℕ) → i < n.ivars → g i < n.ivars) → (x : Body) → BodyFits program n x
+    → BodyFits program n (body_mapped g x)
+body_fits_mapped program g n h x f = record {
+  context = f.context;
+  call = call_mapped_fits (slice_get program x.call.proc) g n h x.call.vals f.call;
+  result = h x.call.to f.result;
+}
+
+stage_fits_mapped : (program : List NumProc) (g : ℕ → ℕ) (n : Drawn) → ((i : ℕ) → i < n.ivars → g i < n.ivars) → (x : Stage Body)
+    → StageFits program n x → StageFits program n (stage_mapped g x)
+stage_fits_mapped program g n h (Waiting body) f = body_fits_mapped program g n h body f
+stage_fits_mapped program g n h Running f = tt
+stage_fits_mapped program g n h x f = tt
+
+throttle_fits_mapped : (program : List NumProc) (g : ℕ → ℕ) (n : Drawn) → ((i : ℕ) → i < n.ivars → g i < n.ivars) → (x : Throttle Body)
+    (started : List Started) → ThrottleFits program n x started → ThrottleFits program n (throttle_mapped g x) (all_started_mapped g started)
+throttle_fits_mapped program g n h x started f = record {
+  waiting = all_map (StageFits program n) (StageFits program n) (stage_mapped g) (stage_fits_mapped program g n h) x.bodies f.waiting;
+  dropped = all_map (BodyFits program n) (BodyFits program n) (body_mapped g) (body_fits_mapped program g n h) x.dropped f.dropped;
+  marks = all_map (MarkFits n) (MarkFits n) (mark_mapped g) (λ mark p. h mark.ivar p) x.marks f.marks;
+  bodies =
+      all_map (StartedFits n) (StartedFits n) (started_mapped g)
+      (λ body p. record { context = p.context; result = h body.to p.result }) started f.bodies;
+  so_many = started_so_many g x started f.so_many;
+  stand = stand_mapped g started x.bodies f.stand;
+  few = omega (arith, f.few, length-map x.bodies (stage_mapped g));
+}
+
 -- ---- the changes of a state
 pub grown_fits : (program : List NumProc) (n n' : Drawn) (s : State) → More n n' → StateFits program n s → StateFits program n' s
 grown_fits program n n' s h f = record {
@@ -328,6 +410,7 @@ grown_fits program n n' s h f = record {
   monitors = all_by (MonitorFits program n) (MonitorFits program n') (monitor_grows program n n' h) s.monitors f.monitors;
   purposes = zip_by (PurposeFits program n) (PurposeFits program n') (purpose_grows program n n' h) (parts_of s.groups) s.purposes f.purposes;
   clock = clock_grows n n' h s.clock f.clock;
+  throttles = zip_by (ThrottleFits program n) (ThrottleFits program n') (throttle_grows program n n' h) s.throttles s.started f.throttles;
 }
 
 job_pushed : (program : List NumProc) (n : Drawn) (b : Bool) (job : Job Task) (q : Queues Task) (s : State)
@@ -343,6 +426,7 @@ job_pushed program n true job q s f p e = record {
   monitors = f.monitors;
   purposes = f.purposes;
   clock = f.clock;
+  throttles = f.throttles;
 }
 job_pushed program n false job q s f p e = record {
   handlers = f.handlers;
@@ -351,6 +435,7 @@ job_pushed program n false job q s f p e = record {
   monitors = f.monitors;
   purposes = f.purposes;
   clock = f.clock;
+  throttles = f.throttles;
 }
 
 enqueue_fits : (program : List NumProc) (n : Drawn) (ctx : Ctx) (task : Task) (s : State) → StateFits program n s → HeldFits program n ctx task.frame
@@ -370,6 +455,7 @@ register_at_fits program n None i ctx frame s f p =
       monitors = f.monitors;
       purposes = f.purposes;
       clock = f.clock;
+      throttles = f.throttles;
     }
 
 woken_fits : (program : List NumProc) (n : Drawn) (v : ℤ) (gs : List (Registration Frame)) (s : State) → StateFits program n s
@@ -387,6 +473,7 @@ fill_empty_fits program n i v s f =
       monitors = f.monitors;
       purposes = f.purposes;
       clock = f.clock;
+      throttles = f.throttles;
     })
     (all_filter (HandlerFits program n) (is_on i) s.cells.registrations f.handlers)
 
@@ -414,8 +501,11 @@ renamed_fits program n from to s h f =
           all_map (JobFits program n) (JobFits program n) (job_mapped g) (λ job. held_mapped program g n p job.ctx job.frame.frame) s.queues.normal f.normal;
       low = all_map (JobFits program n) (JobFits program n) (job_mapped g) (λ job. held_mapped program g n p job.ctx job.frame.frame) s.queues.low f.low;
       monitors = all_map (MonitorFits program n) (MonitorFits program n) (monitor_mapped g) (monitor_fits_mapped program g n p) s.monitors f.monitors;
-      purposes = zip_map (PurposeFits program n) (purpose_mapped g) (purpose_fits_mapped program g n p) (parts_of s.groups) s.purposes f.purposes;
+      purposes = zip_right (PurposeFits program n) (purpose_mapped g) (purpose_fits_mapped program g n p) (parts_of s.groups) s.purposes f.purposes;
       clock = clock_fits_mapped g n p s.clock f.clock;
+      throttles =
+          zip_map (ThrottleFits program n) (ThrottleFits program n) (throttle_mapped g) (all_started_mapped g) (throttle_fits_mapped program g n p)
+          s.throttles s.started f.throttles;
     }
 
 connect_at_fits : (program : List NumProc) (n : Drawn) (b : Bool) (o p : Option ℤ) (result right : ℕ) (s : State) → result < n.ivars
@@ -451,7 +541,9 @@ connect_at_drawn true o p result right s = refl
 connect_at_drawn false (Some w) p result right s = refl
 connect_at_drawn false None (Some v) result right s = fill_at_drawn (number_at result s) result v s
 connect_at_drawn false None None result right s =
-    ap (λ k. record (drawn s) { monitors = k }) (length-map s.monitors (monitor_mapped (renamed right result)))
+    ap (λ k. record (drawn s) { monitors = k; throttles = length (map (throttle_mapped (renamed right result)) s.throttles) })
+    (length-map s.monitors (monitor_mapped (renamed right result)))
+    ∙ ap (λ k. record (drawn s) { throttles = k }) (length-map s.throttles (throttle_mapped (renamed right result)))
 
 -- ---- a change: nothing is gone, and all fits
 pub record Grows (program : List NumProc) (s s' : State) : Type 0 where
@@ -497,6 +589,7 @@ ivar_grows program s f =
       monitors = omega arith;
       groups = omega arith;
       parts = λ g. omega arith;
+      throttles = omega arith;
     }
     in record { more = more; fits = grown_fits program (drawn s) (drawn (with_ivar s)) s more f }
 
@@ -532,6 +625,7 @@ clock_set_grows program c s f p = record {
         monitors = f.monitors;
         purposes = f.purposes;
         clock = p;
+        throttles = f.throttles;
       };
 }
 

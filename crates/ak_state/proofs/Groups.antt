@@ -104,6 +104,7 @@ group_more parts purpose s = record {
   groups = omega (arith, group_drawn parts purpose s);
   parts = λ g. subst (λ ks. slice_index_or (parts_of s.groups) g 0 ≤ slice_index_or ks g 0) (sym (parts_begun parts s.groups))
       (parts_more (parts_of s.groups) parts g);
+  throttles = omega arith;
 }
 
 pub group_grows : (program : List NumProc) (parts : ℕ) (purpose : Purpose) (s : State) → Fits program s
@@ -123,6 +124,7 @@ group_grows program parts purpose s f p =
             purposes = subst (λ ks. AllZip (PurposeFits program (drawn t)) ks t.purposes) (sym (parts_begun parts s.groups))
                 (zip_push (PurposeFits program (drawn t)) (parts_of s.groups) s.purposes parts purpose g.purposes p);
             clock = g.clock;
+            throttles = g.throttles;
           };
     }
 
@@ -144,6 +146,7 @@ regrouped_grows program gs s e f =
       monitors = f.monitors;
       purposes = subst (λ ks. AllZip (PurposeFits program (drawn s)) ks s.purposes) (sym e) f.purposes;
       clock = f.clock;
+      throttles = f.throttles;
     })
 
 pub decided_grows : (program : List NumProc) (g : ℕ) (s : State) → Fits program s → Grows program s (decided g s)

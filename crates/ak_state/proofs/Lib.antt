@@ -1,9 +1,13 @@
 pub mod Stands
 mod Locals
 mod Picks
+mod Started
 pub mod Fitting
 pub mod Monitors
 pub mod Groups
 pub mod Choices
+pub mod Throttles
+pub mod Bodies
+pub mod Ends
 pub mod Errors
 pub mod Alarms

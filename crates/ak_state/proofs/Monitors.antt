@@ -132,7 +132,7 @@ all_in program n [] m h = fresh_fits program n 0
 all_in program n (x ∷ ms) zero h = h.0
 all_in program n (x ∷ ms) (suc m) h = all_in program n ms m h.1
 
-all_set : {A : Type 0} (P : A → Type 0) (xs : List A) (k : ℕ) (x : A) → AllByRecursion P xs → P x → AllByRecursion P (slice_set xs k x)
+pub all_set : {A : Type 0} (P : A → Type 0) (xs : List A) (k : ℕ) (x : A) → AllByRecursion P xs → P x → AllByRecursion P (slice_set xs k x)
 all_set P [] k x h p = tt
 all_set P (y ∷ xs) zero x h p = (p, h.1)
 all_set P (y ∷ xs) (suc k) x h p = (h.0, all_set P xs k x h.1 p)
@@ -143,7 +143,7 @@ child_drawn parent s = length-append s.monitors (fresh_monitor parent ∷ [])
 pub child_grows : (program : List NumProc) (parent : ℕ) (s : State) → Fits program s → Grows program s (with_monitor parent s)
 child_grows program parent s f =
     let more : More (drawn s) (drawn (with_monitor parent s)) =
-    record { ivars = omega arith; monitors = omega (arith, child_drawn parent s); groups = omega arith; parts = λ g. omega arith }
+    record { ivars = omega arith; monitors = omega (arith, child_drawn parent s); groups = omega arith; parts = λ g. omega arith; throttles = omega arith }
     in let g = grown_fits program (drawn s) (drawn (with_monitor parent s)) s more f
     in record {
       more = more;
@@ -156,6 +156,7 @@ child_grows program parent s f =
                 (fresh_fits program (drawn (with_monitor parent s)) parent);
             purposes = g.purposes;
             clock = g.clock;
+            throttles = g.throttles;
           };
     }
 
@@ -171,6 +172,7 @@ set_grows program m x s f p =
       monitors = all_set (MonitorFits program (drawn s)) s.monitors m x f.monitors p;
       purposes = f.purposes;
       clock = f.clock;
+      throttles = f.throttles;
     })
 
 pub detach_grows : (program : List NumProc) (m : ℕ) (s : State) → Fits program s → Grows program s (detach m s)

@@ -9,6 +9,7 @@ pub record Drawn : Type 0 where
   pub groups : ℕ
   -- of each group, how many parts it has
   pub parts : List ℕ
+  pub throttles : ℕ
 
 -- how many parts each group has
 abbrev pub parts_of : List Group → List ℕ
@@ -26,6 +27,7 @@ drawn s =
       monitors = length s.monitors;
       groups = length s.groups;
       parts = parts_of s.groups;
+      throttles = length s.throttles;
     }
 
 -- as much, or more, of each sort
@@ -34,3 +36,4 @@ pub record More (n n' : Drawn) : Type 0 where
   pub monitors : n.monitors ≤ n'.monitors
   pub groups : n.groups ≤ n'.groups
   pub parts : (g : ℕ) → parts_at g n ≤ parts_at g n'
+  pub throttles : n.throttles ≤ n'.throttles

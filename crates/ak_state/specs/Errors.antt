@@ -11,10 +11,11 @@ use Rattle.ak_machine.specs.State.{State}
 use Rattle.ak_machine.specs.Status.{Well, ByError, status_of}
 use Rattle.ak_machine.specs.Deferred.{enqueue, filled_with}
 use Rattle.ak_machine.specs.Groups.{guard_acts}
+use Rattle.ak_machine.specs.Throttles.{body_acts}
 use Rattle.ak_machine.specs.Mapped.{task_mapped}
 use Rattle.ak_machine.specs.Errors.{After, next_errors_filled, handler_acts}
 use Rattle.ak_state.specs.declared.parts.errors.Reaction.{Reaction}
-use Rattle.ak_state.specs.declared.parts.errors.Reaction.TheVariants.{Calls, Tells}
+use Rattle.ak_state.specs.declared.parts.errors.Reaction.TheVariants.{Calls, Tells, TellsBody}
 
 -- the next errors of the monitors from m up to c are filled
 abbrev pub path_filled : ℕ → ℕ → ℤ → State → State
@@ -47,11 +48,13 @@ acted_at c k e s = acted_by e (handler_of c k s) s
 abbrev pub reacted : (ℕ → ℕ) → ℤ → Reaction → State → State
 reacted f e (Calls ctx task) s = enqueue ctx (task_mapped f task) s
 reacted f e (Tells guard) s = guard_acts guard e s
+reacted f e (TellsBody b) s = body_acts b e s
 
 -- where it tells a guard, that is there
 abbrev pub TellsDrawn : Reaction → State → Type 0
 TellsDrawn (Calls ctx task) s = Unit {0}
 TellsDrawn (Tells guard) s = guard < length s.groups
+TellsDrawn (TellsBody b) s = Unit {0}
 
 -- a state, and whether the run goes on
 abbrev pub after_is : Flow → State → After

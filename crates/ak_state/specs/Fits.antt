@@ -1,5 +1,5 @@
 -- Which values, frames and handlers fit a program: each names what was drawn, and is of the kind that is wanted.
-use Rattle.std.specs.Prelude.{ℕ, pos, ◌<◌, ◌≤◌, List, [], ◌∷◌, ◌++◌, map, replicate, slice_get, MatchOption}
+use Rattle.std.specs.Prelude.{ℕ, pos, ◌<◌, ◌≤◌, ◌≡◌, List, [], ◌∷◌, map, length, slice_get, MatchOption, ◌++◌, replicate}
 use Rattle.std.specs.List.{AllByRecursion, AllZip}
 use Rattle.ak_base.specs.declared.number.Ctx.{Ctx}
 use Rattle.ak_rings.specs.declared.job.Job.{Job}
@@ -7,12 +7,12 @@ use Rattle.ak_cells.specs.declared.registration.Registration.{Registration}
 use Rattle.ak_frames.specs.declared.value.Value.{Value}
 use Rattle.ak_frames.specs.declared.value.Value.TheVariants as value
 use Rattle.ak_frames.specs.declared.frame.Ret.{Ret}
-use Rattle.ak_frames.specs.declared.frame.Ret.TheVariants.{Drop, To, TryBody}
+use Rattle.ak_frames.specs.declared.frame.Ret.TheVariants.{Drop, To, TryBody, ThrottleBody}
 use Rattle.ak_frames.specs.declared.frame.Frame.{Frame}
-use Rattle.ak_frames.specs.declared.frame.Frame.TheVariants.{Call, OnValue, AllPart, ChoicePart, TryDone}
+use Rattle.ak_frames.specs.declared.frame.Frame.TheVariants.{Call, OnValue, TryDone, BodyDone, BodyFailed, Raise, AllPart, ChoicePart}
 use Rattle.ak_frames.specs.declared.frame.Task.{Task}
 use Rattle.ak_script.specs.declared.script.Kind.{Kind}
-use Rattle.ak_script.specs.declared.script.Kind.TheVariants.{Num, Ivar, Def, Mon, Event}
+use Rattle.ak_script.specs.declared.script.Kind.TheVariants.{Num, Ivar, Def, Mon, Thr, Event}
 use Rattle.ak_program.specs.declared.program.NumParam.{NumParam}
 use Rattle.ak_program.specs.declared.program.NumProc.{NumProc}
 use Rattle.ak_monitor.specs.Monitors.{Monitor}
@@ -20,12 +20,21 @@ use Rattle.ak_base.specs.Numbers.{AreNumbered}
 use Rattle.ak_clock.specs.declared.alarm.Alarm.{Alarm}
 use Rattle.ak_clock.specs.Clock.{Clock}
 use Rattle.ak_clock.specs.Order.{number_of}
+use Rattle.ak_throttle.specs.declared.stage.Stage.{Stage}
+use Rattle.ak_throttle.specs.declared.stage.Stage.TheVariants.{Waiting, Running}
+use Rattle.ak_throttle.specs.declared.stage.Mark.{Mark}
+use Rattle.ak_throttle.specs.Throttle.{Throttle}
+use Rattle.ak_throttle.specs.Held.{HasStarted}
 use Rattle.ak_machine.specs.declared.held.Callback.{Callback}
 use Rattle.ak_machine.specs.declared.held.Choosable.{Choosable}
 use Rattle.ak_machine.specs.declared.held.Handler.{Handler}
-use Rattle.ak_machine.specs.declared.held.Handler.TheVariants.{OnError, OfGuard}
+use Rattle.ak_machine.specs.declared.held.Handler.TheVariants.{OnError, OfGuard, OfBody}
 use Rattle.ak_machine.specs.declared.held.Purpose.{Purpose}
-use Rattle.ak_machine.specs.declared.held.Purpose.TheVariants.{ForAll, ForAny, ForChoice, ForGuard}
+use Rattle.ak_machine.specs.declared.held.Purpose.TheVariants.{ForGuard, ForAll, ForAny, ForChoice}
+use Rattle.ak_machine.specs.declared.held.Body.{Body}
+use Rattle.ak_machine.specs.declared.held.Fate.{Fate}
+use Rattle.ak_machine.specs.declared.held.Fate.TheVariants.{Undecided, Failing, Over}
+use Rattle.ak_machine.specs.declared.held.Started.{Started}
 use Rattle.ak_machine.specs.State.{State}
 use Rattle.ak_state.specs.Drawn.{Drawn, drawn, parts_of, parts_at}
 
@@ -36,6 +45,7 @@ ValueFits n Ivar (value.Ivar i) = i < n.ivars
 ValueFits n Def (value.Ivar i) = i < n.ivars
 ValueFits n Def (value.Def i) = i < n.ivars
 ValueFits n Mon (value.Mon m) = m < n.monitors
+ValueFits n Thr (value.Thr t) = t < n.throttles
 ValueFits n Event (value.Event e) = Unit {0}
 ValueFits n other v = ⊥
 
@@ -54,7 +64,7 @@ abbrev pub RetFits : Drawn → Ret → Type 0
 RetFits n Drop = Unit {0}
 RetFits n (To i) = i < n.ivars
 RetFits n (TryBody g) = g < n.groups
-RetFits n other = ⊥
+RetFits n (ThrottleBody b) = Unit {0}
 
 -- the procedure is there, and takes the values
 abbrev pub CallFits : List NumProc → Drawn → ℕ → List Value → Type 0
@@ -71,6 +81,9 @@ FrameFits program n (OnValue proc vals ret) = ValueCallFits program n proc vals 
 FrameFits program n (AllPart g k) = k < parts_at g n
 FrameFits program n (ChoicePart g) = g < n.groups
 FrameFits program n (TryDone g) = g < n.groups
+FrameFits program n (BodyDone b) = Unit {0}
+FrameFits program n (BodyFailed b e) = Unit {0}
+FrameFits program n (Raise e) = Unit {0}
 FrameFits program n other = ⊥
 
 -- a job or a handler: its monitor is there
@@ -84,11 +97,11 @@ JobFits program n job = HeldFits program n job.ctx job.frame.frame
 abbrev pub HandlerFits : List NumProc → Drawn → Registration Frame → Type 0
 HandlerFits program n g = HeldFits program n g.ctx g.frame
 
--- what a monitor does with an error: it calls a procedure with the error in front of its values, or tells a guard
+-- what a monitor does with an error: it calls a procedure with the error in front of its values, or tells a guard or a body
 abbrev pub ActFits : List NumProc → Drawn → Handler → Type 0
 ActFits program n (OnError proc vals) = ValueCallFits program n proc vals
 ActFits program n (OfGuard g) = g < n.groups
-ActFits program n other = ⊥
+ActFits program n (OfBody b) = Unit {0}
 
 -- in the context of its registration
 pub record ActorFits (program : List NumProc) (n : Drawn) (h : Ctx × Handler) : Type 0 where
@@ -145,20 +158,62 @@ pub record ClockFits (n : Drawn) (c : Clock) : Type 0 where
   pub numbered : AreNumbered number_of 0 c.next c.alarms
   pub few : c.next ≤ n.ivars
 
--- all that a state holds, list by list; each group has its purpose
+-- a body that waits or was dropped: the context of its `enqueue`, its call and its result
+pub record BodyFits (program : List NumProc) (n : Drawn) (body : Body) : Type 0 where
+  pub context : body.ctx.mon < n.monitors
+  pub call : CallFits program n body.call.proc body.call.vals
+  pub result : body.call.to < n.ivars
+
+abbrev pub StageFits : List NumProc → Drawn → Stage Body → Type 0
+StageFits program n (Waiting body) = BodyFits program n body
+StageFits program n other = Unit {0}
+
+-- a deferred that waits for the end of bodies was drawn
+abbrev pub MarkFits : Drawn → Mark → Type 0
+MarkFits n mark = mark.ivar < n.ivars
+
+-- a body that has started
+pub record StartedFits (n : Drawn) (body : Started) : Type 0 where
+  pub context : body.ctx.mon < n.monitors
+  pub result : body.to < n.ivars
+
+-- a body that is not over runs
+abbrev pub StandsAt : Fate → Stage Body → Type 0
+StandsAt Undecided stage = stage ≡ Running
+StandsAt Failing stage = stage ≡ Running
+StandsAt Over stage = Unit {0}
+
+abbrev pub StandAt : List Started → List (Stage Body) → Type 0
+StandAt [] stages = Unit {0}
+StandAt (body ∷ bodies) [] = ⊥
+StandAt (body ∷ bodies) (stage ∷ stages) = StandsAt body.fate stage × StandAt bodies stages
+
+-- a throttle, and its bodies that have started; no more bodies than ivars were numbered
+pub record ThrottleFits (program : List NumProc) (n : Drawn) (t : Throttle Body) (started : List Started) : Type 0 where
+  pub waiting : AllByRecursion (StageFits program n) t.bodies
+  pub dropped : AllByRecursion (BodyFits program n) t.dropped
+  pub marks : AllByRecursion (MarkFits n) t.marks
+  pub bodies : AllByRecursion (StartedFits n) started
+  pub so_many : HasStarted t (length started)
+  pub stand : StandAt started t.bodies
+  pub few : length t.bodies ≤ n.ivars
+
+-- all that a state holds, list by list; each group has its purpose, and each throttle its bodies
 pub record ListsFit (program : List NumProc) (n : Drawn) (of_registrations : List (Registration Frame))
     (of_normal of_low : List (Job Task)) (of_monitors : List (Monitor Handler)) (of_purposes : List Purpose) (of_parts : List ℕ)
-    (of_clock : Clock) : Type 0 where
+    (of_clock : Clock) (of_throttles : List (Throttle Body)) (of_started : List (List Started)) : Type 0 where
   pub handlers : AllByRecursion (HandlerFits program n) of_registrations
   pub normal : AllByRecursion (JobFits program n) of_normal
   pub low : AllByRecursion (JobFits program n) of_low
   pub monitors : AllByRecursion (MonitorFits program n) of_monitors
   pub purposes : AllZip (PurposeFits program n) of_parts of_purposes
   pub clock : ClockFits n of_clock
+  pub throttles : AllZip (ThrottleFits program n) of_throttles of_started
 
 abbrev pub StateFits : List NumProc → Drawn → State → Type 0
 StateFits program n s =
-    ListsFit program n s.cells.registrations s.queues.normal s.queues.low s.monitors s.purposes (parts_of s.groups) s.clock
+    ListsFit program n s.cells.registrations s.queues.normal s.queues.low s.monitors s.purposes (parts_of s.groups) s.clock s.throttles
+    s.started
 
 -- all of a state fits a program
 abbrev pub Fits : List NumProc → State → Type 0

@@ -6,3 +6,4 @@ pub mod Guards
 pub mod Groups
 pub mod Errors
 pub mod Alarms
+pub mod Bodies

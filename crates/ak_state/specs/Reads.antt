@@ -92,6 +92,28 @@ IsMon (Thr t) = ⊥
 IsMon (Event e) = ⊥
 IsMon (Helper h) = ⊥
 
+-- a throttle of the first n
+abbrev pub IsThrottle : ℕ → Value → Type 0
+IsThrottle n (Num z) = ⊥
+IsThrottle n (Ivar i) = ⊥
+IsThrottle n (Def i) = ⊥
+IsThrottle n (Mon m) = ⊥
+IsThrottle n (Pipe p) = ⊥
+IsThrottle n (Thr t) = t < n
+IsThrottle n (Event e) = ⊥
+IsThrottle n (Helper h) = ⊥
+
+-- a throttle
+abbrev pub IsThr : Value → Type 0
+IsThr (Num z) = ⊥
+IsThr (Ivar i) = ⊥
+IsThr (Def i) = ⊥
+IsThr (Mon m) = ⊥
+IsThr (Pipe p) = ⊥
+IsThr (Thr t) = Unit {0}
+IsThr (Event e) = ⊥
+IsThr (Helper h) = ⊥
+
 -- an alarm
 abbrev pub IsEvent : Value → Type 0
 IsEvent (Num z) = ⊥
@@ -125,6 +147,10 @@ AreChoicesAt s vals choices = All (λ (choice : NumChoice). IsDeferredAt s vals 
 -- a monitor that a local names
 abbrev pub IsMonitorAt : State → List Value → ℕ → Type 0
 IsMonitorAt s vals k = IsMonitor (length s.monitors) (local vals k)
+
+-- a throttle that a local names
+abbrev pub IsThrottleAt : State → List Value → ℕ → Type 0
+IsThrottleAt s vals k = IsThrottle (length s.throttles) (local vals k)
 
 -- an alarm that a local names
 abbrev pub IsEventAt : List Value → ℕ → Type 0

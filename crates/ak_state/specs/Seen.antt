@@ -9,6 +9,7 @@ use Rattle.ak_frames.specs.declared.frame.Task.{Task}
 use Rattle.ak_trace.specs.declared.entry.Entry.{Entry}
 use Rattle.ak_monitor.specs.Monitors.{root_alone}
 use Rattle.ak_clock.specs.Clock.{clock_at_zero}
+use Rattle.ak_streams.specs.Throttles.{no_throttling}
 use Rattle.ak_machine.specs.State.{State, initial_state}
 use Rattle.ak_machine.specs.Deferred.{enqueue, woken_task}
 use Rattle.ak_machine.specs.Mapped.{state_named}
@@ -21,7 +22,15 @@ pub record Seen : Type 0 where
 
 -- the root monitor alone, the clock at 0, and so many askers
 abbrev pub no_lists : ℕ → Lists
-no_lists askers = record { monitors = root_alone; groups = []; purposes = []; clock = clock_at_zero; left = askers }
+no_lists askers =
+    record {
+      monitors = root_alone;
+      groups = [];
+      purposes = [];
+      throttles = no_throttling;
+      clock = clock_at_zero;
+      left = askers;
+    }
 
 -- the machine's other lists; nothing is in those that are not built
 abbrev pub other_lists : Lists → State
@@ -30,6 +39,8 @@ other_lists lists =
       monitors = lists.monitors;
       groups = lists.groups;
       purposes = lists.purposes;
+      throttles = lists.throttles.throttles;
+      started = lists.throttles.started;
       clock = lists.clock;
     }
 

@@ -8,14 +8,17 @@ use ak_choice::groups::Groups;
 use ak_clock::clock::Clock;
 use ak_machine::held::{Handler, Purpose};
 use ak_monitor::tree::Tree;
+use ak_streams::throttles::Throttles;
 use std::alloc::Global;
 
-/// What waits for errors, for decisions and for a time, with the numbers that it was given; and how many askers are left. Own.
+/// What waits for errors, for decisions, for bodies and for a time, with the numbers that it was given; and how many askers are
+/// left. Own.
 #[derive(Debug, Drop)]
 pub struct Lists {
     pub monitors: Tree<Handler>,
     pub groups: Groups,
     pub purposes: Items<Purpose>,
+    pub throttles: Throttles,
     pub clock: Clock,
     pub left: u32,
 }
@@ -29,6 +32,7 @@ impl Lists {
             monitors: Tree::make(alloc)?,
             groups: Groups::make(alloc),
             purposes: Items::make(alloc),
+            throttles: Throttles::make(alloc),
             clock: Clock::make(alloc),
             left: askers,
         })
@@ -41,6 +45,7 @@ impl Lists {
         self.monitors.reset();
         self.groups = Groups::make(alloc);
         self.purposes = Items::make(alloc);
+        self.throttles = Throttles::make(alloc);
         self.clock = Clock::make(alloc);
         self.left = askers;
     }

@@ -2,10 +2,10 @@
 
 ghost use Rattle.std.specs.Prelude.{◌≡◌, ◌∷◌, ◌<◌, length, IfOk};
 ghost use Rattle.ak_machine.specs.Effect.{local, number_of, name_of};
-ghost use Rattle.ak_state.specs.Reads.{IsNum, IsName, IsMon, IsEvent};
+ghost use Rattle.ak_state.specs.Reads.{IsNum, IsName, IsMon, IsThr, IsEvent};
 
 use ak_base::list::{Items, NoMemory};
-use ak_base::number::{EventNo, IvarNo, MonNo, Num};
+use ak_base::number::{EventNo, IvarNo, MonNo, Num, ThrottleNo};
 use ak_frames::value::{Vals, Value};
 use std::alloc::Global;
 
@@ -50,6 +50,17 @@ pub fn mon_of(value: Value) -> MonNo
 {
     match value {
         Value::Mon(mon) => mon,
+        _ => unreachable!(),
+    }
+}
+
+/// The throttle that a value names.
+pub fn thr_of(value: Value) -> ThrottleNo
+    requires { IsThr value }
+    ensures { result ≡ name_of value }
+{
+    match value {
+        Value::Thr(t) => t,
         _ => unreachable!(),
     }
 }

@@ -1,12 +1,14 @@
 //! The parts of the scheduler's state together.
 
 mod alarms;
+mod bodies;
 mod cycle;
 mod deferred;
 mod effect;
 mod errors;
 mod groups;
 mod monitors;
+mod throttles;
 
 ghost use Rattle.std.specs.Prelude.{◌≡◌, ◌≤◌, [], IfOk, OnOk, OnErr};
 ghost use Rattle.ak_machine.specs.State.{initial_state};

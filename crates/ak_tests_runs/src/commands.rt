@@ -480,7 +480,7 @@ fn a_thousand_binds_take_a_thousand_and_two_cycles(rt: HostRuntime) -> Result<()
     )?;
     let (status, taken) = command_gives(&rt, alloc, &["run"], script)?;
     let wanted = thousand_binds(alloc)?;
-    assert_eq!(rt; status, Status::Done);
+    assert!(rt; is_alike(alloc, &status, &Status::Done)?);
     assert!(rt; taken.as_slice() == wanted.as_slice());
     Ok(())
 }

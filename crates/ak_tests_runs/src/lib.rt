@@ -20,6 +20,8 @@ mod meeting;
 #[cfg(test)]
 mod replays;
 #[cfg(test)]
+mod throttles;
+#[cfg(test)]
 mod turns;
 #[cfg(test)]
 mod works;

@@ -3,3 +3,4 @@ pub mod Bodies
 pub mod Done
 pub mod Kept
 pub mod Order
+pub mod Calls

@@ -8,29 +8,16 @@ use Rattle.ak_base.specs.Lists.{rest_of}
 use Rattle.ak_throttle.specs.declared.stage.Stage.{Stage}
 use Rattle.ak_throttle.specs.declared.stage.Stage.TheVariants.{Waiting, Running}
 use Rattle.ak_throttle.specs.declared.stage.Mark.{Mark}
-use Rattle.ak_throttle.specs.Throttle.{Throttle, fresh_throttle, has_room, running_count, is_done, with_mark, started_by_end, after_end, after_failure, dropped_taken, satisfied_taken}
-use Rattle.ak_throttle.specs.Seen.{stage_of, waits, throttle_of, lost_after}
+use Rattle.ak_throttle.specs.Throttle.{Throttle, fresh_throttle, has_room, running_count, is_done, with_mark, started_by_end, after_end, after_failure, dropped_taken, without_dropped, satisfied_taken}
+use Rattle.ak_throttle.specs.Seen.{stage_of, waits, dropped_of, throttle_of, lost_after}
+use Rattle.ak_throttle.specs.Held.{HasStarted}
 use Rattle.ak_throttle.specs.Runs.{Call, Enqueue, Ended, Failed, NextDropped, DoneWhen, NextDone, IsAllowed, AreAllowed, called, after, number_of, starts, all_starts, numbers_from}
 use Rattle.ak_throttle.proofs.Overs.{one_fewer}
 use Rattle.ak_throttle.proofs.Bodies.{running_same, room_same, runs_in, started_same, after_same, stopped_same}
 
--- a throttle of which so many bodies started
-record IsHeld {B : Type 0} (t : Throttle B) (n : ℕ) : Type 0 where
-  pub most : ℕ
-  pub stop : Bool
-  pub dead : Bool
-  pub overs : List Bool
-  pub lost : ℕ
-  pub bodies : List B
-  pub marks : List Mark
-  pub is : t ≡ throttle_of most stop dead overs lost bodies marks
-  pub few : count_by not overs ≤ most
-  pub full : dead ≡ false → 0 < length bodies → count_by not overs ≡ most
-  pub started : length overs ≡ n
-
 -- what a call leaves and starts
-record IsStep {B : Type 0} (n most : ℕ) (nums : List ℕ) (t : Throttle B) : Type 0 where
-  pub held : IsHeld t (n + length nums)
+pub record IsStep {B : Type 0} (n most : ℕ) (nums : List ℕ) (t : Throttle B) : Type 0 where
+  pub held : HasStarted t (n + length nums)
   pub same : t.most ≡ most
   pub in_order : nums ≡ numbers_from n (length nums)
 
@@ -183,13 +170,45 @@ step_of (DoneWhen i) most stop dead overs lost bodies marks a f g =
 step_of NextDone most stop dead overs lost bodies marks a f g =
     none_starts most stop dead overs lost bodies (satisfied_taken (throttle_of most stop dead overs lost bodies marks)).marks (length overs) _ refl f g refl
 
-call_step : {B : Type 0} (call : Call B) (t : Throttle B) (n : ℕ) → IsAllowed call t → IsHeld t n → IsStep n t.most (starts call t) (called call t)
+-- a call keeps how many have started, but for those that it starts
+pub call_step : {B : Type 0} (call : Call B) (t : Throttle B) (n : ℕ) → IsAllowed call t → HasStarted t n → IsStep n t.most (starts call t) (called call t)
 call_step {B} call t n a h =
     let u : Throttle B = throttle_of h.most h.stop h.dead h.overs h.lost h.bodies h.marks
     in let step : IsStep (length h.overs) h.most (starts call u) (called call u) =
     step_of call h.most h.stop h.dead h.overs h.lost h.bodies h.marks (subst (λ (x : Throttle B). IsAllowed call x) h.is a) h.few h.full
     in subst (λ (x : Throttle B). IsStep n x.most (starts call x) (called call x)) (sym h.is)
     (subst (λ (m : ℕ). IsStep m h.most (starts call u) (called call u)) h.started step)
+
+-- ---- what is taken at once
+dropped_by : {B : Type 0} (most : ℕ) (stop dead : Bool) (overs : List Bool) (lost : ℕ) (bodies : List B) (marks : List Mark)
+    → count_by not overs ≤ most → (dead ≡ false → 0 < length bodies → count_by not overs ≡ most)
+    → IsStep (length overs) most [] (without_dropped (throttle_of most stop dead overs lost bodies marks))
+dropped_by most stop true overs lost bodies marks f g =
+    none_starts most stop true overs lost [] marks (length overs) _ refl f (λ d. absurd (true≢false d)) refl
+dropped_by most stop false overs lost bodies marks f g = none_starts most stop false overs lost bodies marks (length overs) _ refl f g refl
+
+-- as many have started when no dropped body is left, and whichever deferreds wait
+pub dropped_held : {B : Type 0} (t : Throttle B) (n : ℕ) → HasStarted t n → HasStarted (without_dropped t) n
+dropped_held {B} t n h =
+    let step = dropped_by h.most h.stop h.dead h.overs h.lost h.bodies h.marks h.few h.full
+    in let many : length h.overs + 0 ≡ n = omega (arith, h.started)
+    in subst (λ (x : Throttle B). HasStarted (without_dropped x) n) (sym h.is)
+    (subst (λ (m : ℕ). HasStarted (without_dropped (throttle_of h.most h.stop h.dead h.overs h.lost h.bodies h.marks)) m) many step.held)
+
+pub marks_held : {B : Type 0} (t : Throttle B) (n : ℕ) (marks : List Mark) → HasStarted t n → HasStarted (record t { marks = marks }) n
+marks_held t n marks h = record {
+  most = h.most;
+  stop = h.stop;
+  dead = h.dead;
+  overs = h.overs;
+  lost = h.lost;
+  bodies = h.bodies;
+  marks = marks;
+  is = ap (λ (x : Throttle _). record x { marks = marks }) h.is;
+  few = h.few;
+  full = h.full;
+  started = h.started;
+}
 
 numbers_more : (n a b : ℕ) → numbers_from n (a + b) ≡ numbers_from n a ++ numbers_from (n + a) b
 numbers_more n zero b =
@@ -208,7 +227,8 @@ record IsRun {B : Type 0} (n most : ℕ) (nums : List ℕ) (t : Throttle B) : Ty
   pub few : running_count t ≤ most
   pub in_order : nums ≡ numbers_from n (length nums)
 
-run_of : {B : Type 0} (calls : List (Call B)) (t : Throttle B) (n : ℕ) → AreAllowed calls t → IsHeld t n → IsRun n t.most (all_starts calls t) (after calls t)
+run_of : {B : Type 0} (calls : List (Call B)) (t : Throttle B) (n : ℕ) → AreAllowed calls t → HasStarted t n
+    → IsRun n t.most (all_starts calls t) (after calls t)
 run_of {B} [] t n a h = record {
   few = omega (arith, h.few, running_same h.dead h.overs h.lost h.bodies, ap (λ (u : Throttle B). running_count u) h.is, ap (λ (u : Throttle B). u.most) h.is);
   in_order = refl;
@@ -225,7 +245,7 @@ run_of (call ∷ calls) t n a h =
           ∙ ap (λ k. numbers_from n k) (sym (length-append (starts call t) (all_starts calls (called call t))));
     }
 
-fresh_held : {B : Type 0} (most : ℕ) (stop : Bool) → IsHeld {B = B} (fresh_throttle most stop) 0
+pub fresh_held : {B : Type 0} (most : ℕ) (stop : Bool) → HasStarted {B = B} (fresh_throttle most stop) 0
 fresh_held most stop = record {
   most = most;
   stop = stop;

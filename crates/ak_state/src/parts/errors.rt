@@ -14,17 +14,18 @@ use crate::local::numbered;
 use crate::parts::Parts;
 use ak_base::list::NoMemory;
 use ak_base::number::{Ctx, GroupNo, IvarNo, MonNo, Num};
-use ak_frames::frame::{Frame, Ret, Task};
+use ak_frames::frame::{BodyId, Frame, Ret, Task};
 use ak_machine::flow::Flow;
 use ak_machine::held::Handler;
 use ak_trace::entry::{Ending, Entry};
 use std::collections::VecDeque;
 
-/// What a handler does with an error: it calls a procedure in a job, or tells a guard.
+/// What a handler does with an error: it calls a procedure in a job, or tells a guard or a body.
 #[derive(Debug, Drop)]
 pub enum Reaction {
     Calls { ctx: Ctx, task: Task },
     Tells(GroupNo),
+    TellsBody(BodyId),
 }
 
 impl Parts {
@@ -156,6 +157,7 @@ impl Parts {
         match self.reaction(c, k, num)? {
             Reaction::Calls { ctx, task } => self.enqueue(ctx, task),
             Reaction::Tells(guard) => self.tell_guard(guard, num),
+            Reaction::TellsBody(body) => self.tell_body(&body, num),
         }
     }
 
@@ -194,7 +196,7 @@ impl Parts {
                 })
             }
             Handler::OfGuard(guard) => Ok(Reaction::Tells(*guard)),
-            Handler::OfBody(_) => unreachable!(),
+            Handler::OfBody(body) => Ok(Reaction::TellsBody(*body)),
         }
     }
 }

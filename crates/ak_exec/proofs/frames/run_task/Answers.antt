@@ -1,12 +1,17 @@
-use Rattle.std.proofs.Common.{◌≤◌, length, arith}
+use Rattle.std.proofs.Common.{◌≤◌, length, subst, arith, ap, ◌∙◌}
+use Rattle.ak_machine.specs.Errors.{After}
 use Rattle.ak_machine.specs.Groups.{part_at}
 use Rattle.ak_machine.specs.Job.{value_or_zero}
 use Rattle.ak_state.specs.Drawn.{drawn}
+use Rattle.ak_state.specs.Fits.{Fits}
 use Rattle.ak_state.specs.Reads.{named}
 use Rattle.ak_state.specs.Groups.{choice_ended}
 use Rattle.ak_state.proofs.Fitting.{value_call}
 use Rattle.ak_state.proofs.Groups.{with_parts, try_done_grows}
 use Rattle.ak_state.proofs.Choices.{part_ended_grows, part_call_fits, choice_ended_grows, choice_call_fits}
+use Rattle.ak_state.proofs.Ends.{body_ended_grows, body_failed_grows}
+use Rattle.ak_state.proofs.Errors.{send_grows}
+use Rattle.ak_exec.proofs.Sent.{on_ok}
 use Rattle.ak_exec.proofs.frames.run_task.Goals as goal
 
 pub run_call-requires-in-OnValue-clause-call : goal.run_call-requires-in-OnValue-clause-call
@@ -57,3 +62,41 @@ pub returns-in_ok-end_try-in-TryDone-clause-fits : goal.returns-in_ok-end_try-in
 returns-in_ok-end_try-in-TryDone-clause-fits c =
     rw c.in_ok-end_try-in-TryDone.ensures
     (try_done_grows c.args.program.now.procs c.in-TryDone.guard _ c.args.parts.now.plain c.requires.fits).fits
+
+-- ---- bodies of throttles
+pub returns-in_ok-end_body-in-BodyDone-clause-fits : goal.returns-in_ok-end_body-in-BodyDone-clause-fits
+returns-in_ok-end_body-in-BodyDone-clause-fits c =
+    rw c.in_ok-end_body-in-BodyDone.ensures
+    (body_ended_grows c.args.program.now.procs c.in-BodyDone.body _ c.args.parts.now.plain c.requires.fits).fits
+
+pub send-requires-clause-monitor : goal.send-requires-clause-monitor
+send-requires-clause-monitor c =
+    rw c.in_ok-fail_body-in-BodyFailed.ensures
+    (omega (
+      arith,
+      c.requires.monitor,
+      (body_failed_grows c.args.program.now.procs c.in-BodyFailed.body c.args.parts.now.plain c.requires.fits).more.monitors,
+    ))
+
+pub send-requires-clause-fits : goal.send-requires-clause-fits
+send-requires-clause-fits c =
+    rw c.in_ok-fail_body-in-BodyFailed.ensures
+    (record {
+      program = c.args.program.now.procs;
+      fits = (body_failed_grows c.args.program.now.procs c.in-BodyFailed.body c.args.parts.now.plain c.requires.fits).fits;
+    })
+
+pub returns-in_ok-fail_body-in-BodyFailed-clause-fits : goal.returns-in_ok-fail_body-in-BodyFailed-clause-fits
+returns-in_ok-fail_body-in-BodyFailed-clause-fits c =
+    let program = c.args.program.now.procs
+    in let s = c.args.parts.now.plain
+    in let failed = body_failed_grows program c.in-BodyFailed.body s c.requires.fits
+    in let fits : Fits program c.fail_body.new.self.plain = rw c.in_ok-fail_body-in-BodyFailed.ensures failed.fits
+    in on_ok c.send.result _ _ c.send.ensures.sent
+    (λ flow sent. subst (λ (a : After). Fits program a.state) sent (send_grows program c.args.ctx.mon _ c.fail_body.new.self.plain fits).fits)
+
+pub returns-in-Raise-clause-fits : goal.returns-in-Raise-clause-fits
+returns-in-Raise-clause-fits c =
+    let program = c.args.program.now.procs
+    in on_ok c.send-in-Raise.result _ _ c.send-in-Raise.ensures.sent
+    (λ flow sent. subst (λ (a : After). Fits program a.state) sent (send_grows program c.args.ctx.mon _ c.args.parts.now.plain c.requires.fits).fits)

@@ -1,0 +1,21 @@
+use Rattle.std.proofs.Common.{ap, sym, ◌∙◌}
+use Rattle.ak_throttle.specs.Throttle.{satisfied_taken, next_satisfied, ivar_of}
+use Rattle.ak_cells.specs.Names.{name_in, trimmed}
+use Rattle.ak_streams.specs.Throttles.{throttle_in}
+use Rattle.ak_state.specs.Seen.{other_lists}
+use Rattle.ak_state.proofs.Throttles.{seen_stepped, throttle_seen, next_mapped, taken_mapped}
+use Rattle.ak_state.proofs.parts.Parts.next_done.Goals as goal
+
+pub returns-clause-first : goal.returns-clause-first
+returns-clause-first c =
+    let f = name_in (trimmed c.self.inside.cells.named.names)
+    in let all = c.self.inside.lists.throttles
+    in rw (← c.self.view_is, c.next_done.ensures.front)
+    (next_mapped f (throttle_in c.args.t all)
+    ∙ ap (λ x. ivar_of (next_satisfied x)) (sym (throttle_seen f all.throttles c.args.t)))
+
+pub returns-clause-rest : goal.returns-clause-rest
+returns-clause-rest c =
+    rw (← c.self.view_is, c.next_done.ensures.rest)
+    (seen_stepped c.self.inside.cells.named c.self.inside.queues.queues c.self.inside.trace (other_lists c.self.inside.lists) c.args.t satisfied_taken
+    satisfied_taken (taken_mapped (name_in (trimmed c.self.inside.cells.named.names))))

@@ -1,0 +1,2 @@
+pub mod Throttles
+pub mod Pipes
