@@ -6,17 +6,19 @@ use Rattle.std.specs.Option.{option_map_or}
 use Rattle.std.specs.Str.{bytes_eq}
 use Rattle.ak_script.specs.declared.statement.Atom.{Atom}
 use Rattle.ak_script.specs.declared.statement.Atom.TheVariants.{Literal, Local}
+use Rattle.ak_valid.specs.Kinds.{lesser_by}
 use Rattle.ak_valid.specs.Numbered.{at}
 use Rattle.ak_let.specs.declared.source.Line.{Line}
 use Rattle.ak_let.specs.declared.source.Fun.{Fun}
 use Rattle.ak_let.specs.Correct.{Callable, CallsFit, FunIsScoped, FunIsSound, FunIsWithin, IsKnownAtom, IsKnownWhen, IsSound, LinesAreScoped, bound_by}
-use Rattle.ak_let_reader.specs.declared.named.NamedStmt.{NamedStmt}
-use Rattle.ak_let_reader.specs.declared.named.NamedStmt.TheVariants.{Let, Compute, Print, Raise, Return, Await, AwaitWork, Try}
-use Rattle.ak_let_reader.specs.declared.named.NamedLine.{NamedLine}
-use Rattle.ak_let_reader.specs.declared.named.NamedFun.{NamedFun}
-use Rattle.ak_let_reader.specs.declared.refusal.LetFault.{LetFault}
-use Rattle.ak_let_reader.specs.declared.refusal.LetFault.TheVariants.{NoMain, UnknownName, WrongCount}
-use Rattle.ak_let_reader.specs.Grammar.{IsWithin, binds}
+use Rattle.ak_let_syntax.specs.declared.named.NamedStmt.{NamedStmt}
+use Rattle.ak_let_syntax.specs.declared.named.NamedStmt.TheVariants.{Let, Compute, Print, Raise, Return, Await, AwaitWork, Try}
+use Rattle.ak_let_syntax.specs.declared.named.NamedLine.{NamedLine}
+use Rattle.ak_let_syntax.specs.declared.named.NamedFun.{NamedFun}
+use Rattle.ak_let_syntax.specs.declared.refusal.LetFault.{LetFault}
+use Rattle.ak_let_syntax.specs.declared.refusal.LetFault.TheVariants.{NoMain, UnknownName, WrongCount}
+use Rattle.ak_let_syntax.specs.Faults.{kind_number}
+use Rattle.ak_let_syntax.specs.Grammar.{IsWithin, binds}
 use Rattle.ak_let_reader.specs.NameFaults.{Call, Judged, body_judged, call_faults, calls, first_fault, fun_named, funs_judged, judged, least, main_faults, name_fault, stmt_faults, twice_faults, use_faults, uses, when_uses}
 use Rattle.ak_let_reader.specs.Numbered.{fun_names, numbered, numbered_atom, numbered_fun, numbered_lines, numbered_stmt, numbered_when}
 
@@ -24,9 +26,13 @@ use Rattle.ak_let_reader.specs.Numbered.{fun_names, numbered, numbered_atom, num
 abbrev IsFaultless : Judged → Type 0
 IsFaultless j = j.faults ≡ []
 
+never_none : (kind : LetFault) (o : Option LetFault) → lesser_by kind_number (Some kind) o ≡ None → ⊥
+never_none kind None h = cc
+never_none kind (Some other) h = cc
+
 none_least : (kinds : List LetFault) → least kinds ≡ None → kinds ≡ []
 none_least [] h = refl
-none_least (kind ∷ kinds) h = cc
+none_least (kind ∷ kinds) h = absurd (never_none kind (least kinds) h)
 
 both_none : {X Y : Type 0} (f : X → Y) (o : Option X) (d : Option Y) → option_map_or (λ x. Some (f x)) o d ≡ None → (o ≡ None) × (d ≡ None)
 both_none f None d h = (refl, h)

@@ -7,14 +7,15 @@ use Rattle.ak_script.specs.declared.statement.Atom.{Atom}
 use Rattle.ak_script.specs.declared.statement.Atom.TheVariants.{Literal, Local}
 use Rattle.ak_let.specs.declared.source.Source.{Source}
 use Rattle.ak_let_text.specs.Compiles.{AtomIsShort, Compiles, FunIsShort, LineIsShort, WhenIsShort}
-use Rattle.ak_let_reader.specs.declared.named.Form.{Form}
-use Rattle.ak_let_reader.specs.declared.named.Form.TheVariants.{Body, End}
-use Rattle.ak_let_reader.specs.declared.named.NamedStmt.{NamedStmt}
-use Rattle.ak_let_reader.specs.declared.named.NamedStmt.TheVariants.{Let, Compute, Print, Raise, Return, Await, AwaitWork, Try}
-use Rattle.ak_let_reader.specs.declared.named.NamedLine.{NamedLine}
-use Rattle.ak_let_reader.specs.declared.named.NamedFun.{NamedFun}
+use Rattle.ak_let_syntax.specs.declared.named.Form.{Form}
+use Rattle.ak_let_syntax.specs.declared.named.Form.TheVariants.{Body, End}
+use Rattle.ak_let_syntax.specs.declared.named.NamedStmt.{NamedStmt}
+use Rattle.ak_let_syntax.specs.declared.named.NamedStmt.TheVariants.{Let, Compute, Print, Raise, Return, Await, AwaitWork, Try}
+use Rattle.ak_let_syntax.specs.declared.named.NamedLine.{NamedLine}
+use Rattle.ak_let_syntax.specs.declared.named.NamedFun.{NamedFun}
 use Rattle.ak_let_reader.specs.Answers.{IsSource}
-use Rattle.ak_let_reader.specs.Grammar.{IsLine, Place, Exactly, Named, Valued, Stands, binds, forms, places, row, when_places}
+use Rattle.ak_syntax.specs.Table.{Place, Exactly, Named, Valued, Counted, Typed, Stands}
+use Rattle.ak_let_syntax.specs.Grammar.{IsLine, binds, forms, places, row, when_places}
 use Rattle.ak_let_reader.specs.Numbered.{fun_names, numbered_atom, numbered_fun, numbered_lines, numbered_stmt, numbered_when}
 use Rattle.ak_let_reader.proofs.Right.{all_split, functions_are_within, names_are_scoped, names_are_sound}
 
@@ -30,6 +31,8 @@ stands_short (Exactly bytes) word h = tt
 stands_short (Named name) word h = tt
 stands_short (Valued (Literal z)) word h = h.0
 stands_short (Valued (Local name)) word h = tt
+stands_short (Counted least number) word h = tt
+stands_short (Typed param) word h = tt
 
 words_short : (ps : List Place) (words : List (List ℕ)) → AllZip Stands ps words → AllByRecursion IsShort ps
 words_short [] words h = tt

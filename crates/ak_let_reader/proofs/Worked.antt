@@ -6,16 +6,17 @@ use Rattle.std.specs.List.{AllZip, AllByRecursion}
 use Rattle.ak_text.specs.Lines.{text_lines, counts}
 use Rattle.ak_text.specs.Numbers.{Writes}
 use Rattle.ak_let.specs.Worked.{worked}
-use Rattle.ak_let_reader.specs.declared.refusal.LetFault.TheVariants.{BadLine, BadNumber, NoMain, TooMany, UnknownName}
+use Rattle.ak_let_syntax.specs.declared.refusal.LetFault.TheVariants.{BadLine, BadNumber, NoMain, TooMany, UnknownName}
 use Rattle.ak_let_reader.specs.Answers.{HasFault, IsSource}
-use Rattle.ak_let_reader.specs.Faults.{Front, IsFront}
-use Rattle.ak_let_reader.specs.Grammar.{IsLine, Reads, IsWithin, forms}
+use Rattle.ak_let_syntax.specs.Faults.{Front, IsFront}
+use Rattle.ak_let_syntax.specs.Grammar.{IsLine, Reads, IsWithin, forms}
+use Rattle.ak_syntax.specs.Rules.{is_many, is_wide}
 use Rattle.ak_let_reader.specs.Rows.{worked_text, worked_funs, unknown_text, unknown_funs, mainless_text, mainless_funs, many_text, open_text, open_fun, wide_text}
 use Rattle.ak_script.specs.declared.statement.Atom.TheVariants.{Literal}
-use Rattle.ak_let_reader.specs.declared.named.NamedFun.{NamedFun}
-use Rattle.ak_let_reader.specs.declared.named.NamedStmt.TheVariants.{Let, Print}
-use Rattle.ak_let_reader.specs.declared.named.Form.{Form}
-use Rattle.ak_let_reader.specs.declared.named.Form.TheVariants.{Body}
+use Rattle.ak_let_syntax.specs.declared.named.NamedFun.{NamedFun}
+use Rattle.ak_let_syntax.specs.declared.named.NamedStmt.TheVariants.{Let, Print}
+use Rattle.ak_let_syntax.specs.declared.named.Form.{Form}
+use Rattle.ak_let_syntax.specs.declared.named.Form.TheVariants.{Body}
 
 -- the numbers that the texts write
 written_0 : FitsSigned w64 (pos 0) × Writes (codes "0") (pos 0)
@@ -29,39 +30,39 @@ written_3 = (omega (arith, ints), ((omega arith, refl), refl))
 
 worked_lines : AllZip IsLine (forms worked_funs) (filter counts (text_lines worked_text))
 worked_lines = (
-  record { good = refl; number = refl; words = (refl, ((refl, refl), tt)) },
+  record { good = refl; number = refl; words = (refl, ((refl, refl), tt)); names = refl },
   (
-    record { good = refl; number = refl; words = (refl, ((refl, refl), (refl, ((refl, refl), (written_3, tt))))) },
+    record { good = refl; number = refl; words = (refl, ((refl, refl), (refl, ((refl, refl), (written_3, tt))))); names = refl },
     (
-      record { good = refl; number = refl; words = (refl, ((refl, refl), tt)) },
+      record { good = refl; number = refl; words = (refl, ((refl, refl), tt)); names = refl },
       (
-        record { good = refl; number = refl; words = (refl, ((refl, refl), (refl, ((refl, refl), (written_1, (refl, ((refl, refl), tt))))))) },
+        record { good = refl; number = refl; words = (refl, ((refl, refl), (refl, ((refl, refl), (written_1, (refl, ((refl, refl), tt))))))); names = refl },
         (
-          record { good = refl; number = refl; words = (refl, ((refl, refl), tt)) },
+          record { good = refl; number = refl; words = (refl, ((refl, refl), tt)); names = refl },
           (
-            record { good = refl; number = tt; words = (refl, tt) },
+            record { good = refl; number = tt; words = (refl, tt); names = refl },
             (
-              record { good = refl; number = refl; words = (refl, ((refl, refl), ((refl, refl), tt))) },
+              record { good = refl; number = refl; words = (refl, ((refl, refl), ((refl, refl), tt))); names = refl },
               (
-                record { good = refl; number = refl; words = (refl, ((refl, refl), (refl, (refl, (refl, ((refl, refl), tt)))))) },
+                record { good = refl; number = refl; words = (refl, ((refl, refl), (refl, (refl, (refl, ((refl, refl), tt)))))); names = refl },
                 (
-                  record { good = refl; number = refl; words = (refl, ((refl, refl), tt)) },
+                  record { good = refl; number = refl; words = (refl, ((refl, refl), tt)); names = refl },
                   (
-                    record { good = refl; number = tt; words = (refl, tt) },
+                    record { good = refl; number = tt; words = (refl, tt); names = refl },
                     (
-                      record { good = refl; number = refl; words = (refl, ((refl, refl), ((refl, refl), tt))) },
+                      record { good = refl; number = refl; words = (refl, ((refl, refl), ((refl, refl), tt))); names = refl },
                       (
-                        record { good = refl; number = refl; words = (refl, ((refl, refl), (refl, ((refl, refl), (refl, (written_0, tt)))))) },
+                        record { good = refl; number = refl; words = (refl, ((refl, refl), (refl, ((refl, refl), (refl, (written_0, tt)))))); names = refl },
                         (
-                          record { good = refl; number = refl; words = (refl, ((refl, refl), tt)) },
+                          record { good = refl; number = refl; words = (refl, ((refl, refl), tt)); names = refl },
                           (
-                            record { good = refl; number = tt; words = (refl, tt) },
+                            record { good = refl; number = tt; words = (refl, tt); names = refl },
                             (
-                              record { good = refl; number = refl; words = (refl, ((refl, refl), ((refl, refl), tt))) },
+                              record { good = refl; number = refl; words = (refl, ((refl, refl), ((refl, refl), tt))); names = refl },
                               (
-                                record { good = refl; number = refl; words = (refl, ((refl, refl), tt)) },
+                                record { good = refl; number = refl; words = (refl, ((refl, refl), tt)); names = refl },
                                 (
-                                  record { good = refl; number = tt; words = (refl, tt) },
+                                  record { good = refl; number = tt; words = (refl, tt); names = refl },
                                   tt,
                                 ),
                               ),
@@ -101,10 +102,10 @@ unknown_read : Reads unknown_text unknown_funs
 unknown_read =
     record {
       lines = (
-        record { good = refl; number = refl; words = (refl, ((refl, refl), tt)) },
+        record { good = refl; number = refl; words = (refl, ((refl, refl), tt)); names = refl },
         (
-          record { good = refl; number = refl; words = (refl, ((refl, refl), (refl, ((refl, refl), (written_3, tt))))) },
-          (record { good = refl; number = tt; words = (refl, tt) }, tt),
+          record { good = refl; number = refl; words = (refl, ((refl, refl), (refl, ((refl, refl), (written_3, tt))))); names = refl },
+          (record { good = refl; number = tt; words = (refl, tt); names = refl }, tt),
         ),
       );
       few = omega arith;
@@ -118,8 +119,8 @@ mainless_read : Reads mainless_text mainless_funs
 mainless_read =
     record {
       lines = (
-        record { good = refl; number = refl; words = (refl, ((refl, refl), tt)) },
-        (record { good = refl; number = tt; words = (refl, tt) }, tt),
+        record { good = refl; number = refl; words = (refl, ((refl, refl), tt)); names = refl },
+        (record { good = refl; number = tt; words = (refl, tt); names = refl }, tt),
       );
       few = omega arith;
       each = (record { lines = omega arith; locals = omega arith }, tt);
@@ -135,15 +136,15 @@ open_right : IsFront open_front (filter counts (text_lines open_text))
 open_right =
     record {
       lines = (
-        record { good = refl; number = refl; words = (refl, ((refl, refl), tt)) },
-        (record { good = refl; number = refl; words = (refl, (written_1, tt)) }, tt),
+        record { good = refl; number = refl; words = (refl, ((refl, refl), tt)); names = refl },
+        (record { good = refl; number = refl; words = (refl, (written_1, tt)); names = refl }, tt),
       );
       funs = omega arith;
       each = (record { lines = omega arith; locals = omega arith }, tt);
     }
 
 pub open_refused : HasFault open_text 3 BadLine
-open_refused = inl (inr (record { front = open_front; fun = open_fun; begun = refl; right = open_right; at = refl; is_bad = refl }))
+open_refused = inl (inr (record { front = open_front; inside = refl; right = open_right; at = refl; is_bad = refl }))
 
 -- ---- faults of lines
 -- no number of 64 bits is written so
@@ -168,17 +169,14 @@ wide_refused =
       after = record { number = 3; text = codes "end" } ∷ [];
       lines = refl;
       right = record {
-        lines = (record { good = refl; number = refl; words = (refl, ((refl, refl), tt)) }, tt);
+        lines = (record { good = refl; number = refl; words = (refl, ((refl, refl), tt)); names = refl }, tt);
         funs = omega arith;
         each = (record { lines = omega arith; locals = omega arith }, tt);
       };
-      fault = (
-        wide_form,
-        record { good = refl; number = refl; words = (inl refl, (inr ((refl, too_wide), refl), tt)) },
-        tt,
-        (λ e. elim e [ inl h ↦ omega (arith, h) | inr h ↦ omega (arith, h) ]),
-        inr (inl (refl, too_wide)),
-      );
+      fault =
+          is_wide refl wide_form
+          (record { good = refl; number = refl; words = (inl refl, (inr ((refl, too_wide), refl), tt)); shaped = refl }) tt
+          (λ e. elim e [ inl h ↦ omega (arith, h) | inr h ↦ omega (arith, h) ]) (inr (inl (refl, too_wide)));
       at = refl;
     }))
 
@@ -205,17 +203,20 @@ many_refused =
               refl,
               ((refl, refl), ((refl, refl), ((refl, refl), ((refl, refl), ((refl, refl), ((refl, refl), ((refl, refl), ((refl, refl), tt)))))))),
             );
+            names = refl;
           },
           tt,
         );
         funs = omega arith;
         each = (record { lines = omega arith; locals = omega arith }, tt);
       };
-      fault = (
-        many_form,
-        record { good = refl; number = refl; words = (inl refl, (inl (refl, refl), (inl refl, (inr ((refl, too_wide), refl), tt)))) },
-        tt,
-        inr (omega arith),
-      );
+      fault =
+          is_many refl many_form
+          (record {
+            good = refl;
+            number = refl;
+            words = (inl refl, (inl (refl, refl), (inl refl, (inr ((refl, too_wide), refl), tt))));
+            shaped = refl;
+          }) tt (inr (omega arith));
       at = refl;
     }))

@@ -1,12 +1,12 @@
 -- What the reader answers, want of memory aside. Own.
 use Rattle.std.specs.Prelude.{◌≡◌, ℕ, ◌⊎◌, Some, None, Result, Ok, Err, List}
 use Rattle.ak_let.specs.declared.source.Source.{Source}
-use Rattle.ak_let_reader.specs.declared.named.NamedFun.{NamedFun}
-use Rattle.ak_let_reader.specs.declared.refusal.LetFault.{LetFault}
-use Rattle.ak_let_reader.specs.declared.refusal.LetRefused.{LetRefused}
-use Rattle.ak_let_reader.specs.declared.refusal.LetRefused.TheVariants.{At, NoMemory}
-use Rattle.ak_let_reader.specs.Faults.{GrammarFault, kind_number}
-use Rattle.ak_let_reader.specs.Grammar.{Reads}
+use Rattle.ak_let_syntax.specs.declared.named.NamedFun.{NamedFun}
+use Rattle.ak_let_syntax.specs.declared.refusal.LetFault.{LetFault}
+use Rattle.ak_let_syntax.specs.declared.refusal.LetRefused.{LetRefused}
+use Rattle.ak_let_syntax.specs.declared.refusal.LetRefused.TheVariants.{At, NoMemory}
+use Rattle.ak_let_syntax.specs.Faults.{GrammarFault, kind_number}
+use Rattle.ak_let_syntax.specs.Grammar.{Reads}
 use Rattle.ak_let_reader.specs.NameFaults.{name_fault}
 use Rattle.ak_let_reader.specs.Numbered.{numbered}
 
@@ -33,15 +33,3 @@ IsRight bytes (Ok source) = IsSource bytes source
 IsRight bytes (Err (At line number)) =
     (kind : LetFault) × (number ≡ kind_number kind) × HasFault bytes line kind
 IsRight bytes (Err NoMemory) = Unit {0}
-
--- the answer is the source, or want of memory
-abbrev pub Gives : Result Source LetRefused → Source → Type 0
-Gives (Ok source) wanted = source ≡ wanted
-Gives (Err (At line kind)) wanted = ⊥
-Gives (Err NoMemory) wanted = Unit {0}
-
--- the answer is the fault, or want of memory
-abbrev pub Refuses : Result Source LetRefused → ℕ → LetFault → Type 0
-Refuses (Ok source) line kind = ⊥
-Refuses (Err (At at number)) line kind = (at ≡ line) × (number ≡ kind_number kind)
-Refuses (Err NoMemory) line kind = Unit {0}

@@ -1,6 +1,6 @@
 pub mod Answers
-pub mod Faults
-pub mod Grammar
 pub mod NameFaults
 pub mod Numbered
+pub mod Places
+pub mod Refusals
 pub mod Rows

@@ -1,18 +1,19 @@
 -- The faults of names: the lines of functions in their order, each with the kinds of its faults. Own.
-use Rattle.std.specs.Prelude.{ℕ, ◌==◌, nat_lt, Option, Some, None, List, [], ◌∷◌, ◌++◌, length, codes, if◌then◌else◌}
+use Rattle.std.specs.Prelude.{ℕ, ◌==◌, Option, Some, None, List, [], ◌∷◌, ◌++◌, length, codes, if◌then◌else◌}
 use Rattle.std.specs.List.{flat_map, find, list_any}
 use Rattle.std.specs.Option.{option_map_or}
 use Rattle.std.specs.Str.{bytes_eq}
 use Rattle.ak_script.specs.declared.statement.Atom.{Atom}
 use Rattle.ak_script.specs.declared.statement.Atom.TheVariants.{Literal, Local}
-use Rattle.ak_let_reader.specs.declared.named.NamedStmt.{NamedStmt}
-use Rattle.ak_let_reader.specs.declared.named.NamedStmt.TheVariants.{Let, Compute, Print, Raise, Return, Await, AwaitWork, Try}
-use Rattle.ak_let_reader.specs.declared.named.NamedLine.{NamedLine}
-use Rattle.ak_let_reader.specs.declared.named.NamedFun.{NamedFun}
-use Rattle.ak_let_reader.specs.declared.refusal.LetFault.{LetFault}
-use Rattle.ak_let_reader.specs.declared.refusal.LetFault.TheVariants.{NoMain, TwiceNamed, UnknownName, WrongCount}
-use Rattle.ak_let_reader.specs.Faults.{kind_number}
-use Rattle.ak_let_reader.specs.Grammar.{binds}
+use Rattle.ak_valid.specs.Kinds.{least_by}
+use Rattle.ak_let_syntax.specs.declared.named.NamedStmt.{NamedStmt}
+use Rattle.ak_let_syntax.specs.declared.named.NamedStmt.TheVariants.{Let, Compute, Print, Raise, Return, Await, AwaitWork, Try}
+use Rattle.ak_let_syntax.specs.declared.named.NamedLine.{NamedLine}
+use Rattle.ak_let_syntax.specs.declared.named.NamedFun.{NamedFun}
+use Rattle.ak_let_syntax.specs.declared.refusal.LetFault.{LetFault}
+use Rattle.ak_let_syntax.specs.declared.refusal.LetFault.TheVariants.{NoMain, TwiceNamed, UnknownName, WrongCount}
+use Rattle.ak_let_syntax.specs.Faults.{kind_number}
+use Rattle.ak_let_syntax.specs.Grammar.{binds}
 
 -- the first function of the name
 abbrev pub fun_named : List NamedFun → List ℕ → Option NamedFun
@@ -91,12 +92,15 @@ body_judged funs known (line ∷ lines) =
     record { number = line.number; faults = stmt_faults funs known line.stmt }
     ∷ body_judged funs (binds line.stmt ++ known) lines
 
--- the lines of functions, each behind those of the names before; `end` has no fault
+-- the lines of a function behind those of the names before; `end` has no fault
+abbrev pub fun_judged : List NamedFun → List (List ℕ) → NamedFun → List Judged
+fun_judged funs before fun =
+    record { number = fun.number; faults = head_faults before fun } ∷ body_judged funs fun.params fun.lines
+
+-- the lines of functions, each behind those of the names before
 abbrev pub funs_judged : List NamedFun → List (List ℕ) → List NamedFun → List Judged
 funs_judged funs before [] = []
-funs_judged funs before (fun ∷ rest) =
-    record { number = fun.number; faults = head_faults before fun }
-    ∷ (body_judged funs fun.params fun.lines ++ funs_judged funs (fun.name ∷ before) rest)
+funs_judged funs before (fun ∷ rest) = fun_judged funs before fun ++ funs_judged funs (fun.name ∷ before) rest
 
 -- line 0, before all lines: a `main` is there
 abbrev pub line_zero : List NamedFun → Judged
@@ -107,15 +111,9 @@ abbrev pub judged : List NamedFun → List Judged
 judged funs = line_zero funs ∷ funs_judged funs [] funs
 
 -- ---- the first line with a fault
--- the lesser of two kinds that may be there
-abbrev pub lesser : LetFault → Option LetFault → LetFault
-lesser a None = a
-lesser a (Some b) = if nat_lt (kind_number b) (kind_number a) then b else a
-
 -- the least of some kinds
 abbrev pub least : List LetFault → Option LetFault
-least [] = None
-least (kind ∷ kinds) = Some (lesser kind (least kinds))
+least kinds = least_by kind_number kinds
 
 -- the first line with a fault, and its least kind
 abbrev pub first_fault : List Judged → Option (ℕ × LetFault)

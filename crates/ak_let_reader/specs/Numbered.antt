@@ -9,11 +9,11 @@ use Rattle.ak_let.specs.declared.source.Line.{Line}
 use Rattle.ak_let.specs.declared.source.Line.TheVariants as line
 use Rattle.ak_let.specs.declared.source.Fun.{Fun}
 use Rattle.ak_let.specs.declared.source.Source.{Source}
-use Rattle.ak_let_reader.specs.declared.named.NamedStmt.{NamedStmt}
-use Rattle.ak_let_reader.specs.declared.named.NamedStmt.TheVariants.{Let, Compute, Print, Raise, Return, Await, AwaitWork, Try}
-use Rattle.ak_let_reader.specs.declared.named.NamedLine.{NamedLine}
-use Rattle.ak_let_reader.specs.declared.named.NamedFun.{NamedFun}
-use Rattle.ak_let_reader.specs.Grammar.{binds}
+use Rattle.ak_let_syntax.specs.declared.named.NamedStmt.{NamedStmt}
+use Rattle.ak_let_syntax.specs.declared.named.NamedStmt.TheVariants.{Let, Compute, Print, Raise, Return, Await, AwaitWork, Try}
+use Rattle.ak_let_syntax.specs.declared.named.NamedLine.{NamedLine}
+use Rattle.ak_let_syntax.specs.declared.named.NamedFun.{NamedFun}
+use Rattle.ak_let_syntax.specs.Grammar.{binds}
 
 -- an atom, where these locals are known, the newest first
 abbrev pub numbered_atom : List (List ℕ) → Atom → NumAtom

@@ -4,8 +4,8 @@ use Rattle.std.specs.List.{flat_map}
 use Rattle.ak_script.specs.declared.statement.Atom.TheVariants.{Literal, Local}
 use Rattle.ak_script.specs.declared.statement.Operator.TheVariants.{Div}
 use Rattle.ak_script.specs.declared.statement.WorkWord.TheVariants.{Square}
-use Rattle.ak_let_reader.specs.declared.named.NamedStmt.TheVariants.{Compute, Print, Return, Await, AwaitWork, Try}
-use Rattle.ak_let_reader.specs.declared.named.NamedFun.{NamedFun}
+use Rattle.ak_let_syntax.specs.declared.named.NamedStmt.TheVariants.{Compute, Print, Return, Await, AwaitWork, Try}
+use Rattle.ak_let_syntax.specs.declared.named.NamedFun.{NamedFun}
 
 -- the text of some lines
 abbrev pub text_of : List (List ℕ) → List ℕ

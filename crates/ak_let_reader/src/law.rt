@@ -3,11 +3,11 @@
 ghost use Rattle.std.specs.Prelude.{◌≡◌, ℕ, None, List};
 ghost use Rattle.std.specs.List.{AllByRecursion};
 ghost use Rattle.ak_let.specs.Correct.{FunIsScoped, FunIsWithin, IsSound};
-ghost use Rattle.ak_let_reader.specs.declared.named.NamedFun.{NamedFun as Fun};
+ghost use Rattle.ak_let_syntax.specs.declared.named.NamedFun.{NamedFun as Fun};
 ghost use Rattle.ak_let.specs.declared.source.Source.{Source};
 ghost use Rattle.ak_let_text.specs.Compiles.{Compiles};
 ghost use Rattle.ak_let_reader.specs.Answers.{IsSource};
-ghost use Rattle.ak_let_reader.specs.Grammar.{IsWithin};
+ghost use Rattle.ak_let_syntax.specs.Grammar.{IsWithin};
 ghost use Rattle.ak_let_reader.specs.NameFaults.{name_fault};
 ghost use Rattle.ak_let_reader.specs.Numbered.{numbered};
 

@@ -1,7 +1,11 @@
-//! The let dialect: its grammar, its faults, and the numbering of its names.
+//! The let dialect: the faults of its names, their numbering, and the reader of sources.
 #![tactic(auto)]
 
+mod faults;
+mod functions;
 pub mod law;
-pub mod named;
-pub mod refusal;
+mod locals;
+pub mod names;
+mod number;
+pub mod read;
 pub mod rows;

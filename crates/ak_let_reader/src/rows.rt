@@ -2,7 +2,7 @@
 
 ghost use Rattle.std.specs.Prelude.{◌≡◌, Some, None};
 ghost use Rattle.ak_let.specs.Worked.{worked};
-ghost use Rattle.ak_let_reader.specs.declared.refusal.LetFault.TheVariants.{BadLine, BadNumber, NoMain, TooMany, TwiceNamed, UnknownName, WrongCount};
+ghost use Rattle.ak_let_syntax.specs.declared.refusal.LetFault.TheVariants.{BadLine, BadNumber, NoMain, TooMany, TwiceNamed, UnknownName, WrongCount};
 ghost use Rattle.ak_let_reader.specs.Answers.{HasFault, IsSource};
 ghost use Rattle.ak_let_reader.specs.NameFaults.{name_fault};
 ghost use Rattle.ak_let_reader.specs.Rows.{worked_text, unknown_text, mainless_text, many_text, open_text, wide_text, twice_funs, count_funs};

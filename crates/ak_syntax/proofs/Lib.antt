@@ -11,5 +11,7 @@ pub mod Parts
 pub mod RowWords
 pub mod Scanned
 pub mod Shapes
+pub mod TakenLines
 pub mod TakenRows
+pub mod TakenTexts
 pub mod Walks

@@ -17,20 +17,21 @@ use Rattle.ak_syntax.specs.Rows.{statement_at}
 use Rattle.ak_script.specs.Statements.{binds, MayHavePrefix}
 use Rattle.ak_syntax.specs.Table.{Place, Valued, row, HasDeferreds}
 use Rattle.ak_syntax.specs.Grammar.{places, prefix_places, HasNumber}
-use Rattle.ak_syntax.specs.Faults.{IsShaped}
+use Rattle.ak_syntax.specs.Faults.{IsShaped, rules}
 use Rattle.ak_syntax.specs.Words.{Bad, bad, ◌>>=◌, Part, both, mapped, word_from, word_at, exactly_at, end_at, atom_at, name_at, params_at}
-use Rattle.ak_syntax.specs.Lines.{head_at, async_at, end_form_at, conditional_at, if_at, unless_at, plain_at, form_from}
+use Rattle.ak_syntax.specs.Lines.{taking, head_at, async_at, end_form_at, conditional_at, if_at, unless_at, plain_at, form_from}
 use Rattle.ak_syntax.proofs.Found.{ok_pair, bind_ok, bind_is, chosen, if_so, good_pair}
 use Rattle.ak_syntax.proofs.Meets.{Meets}
 use Rattle.ak_syntax.proofs.Items.{exactly_part, name_part, atom_part}
 use Rattle.ak_syntax.proofs.Parts.{IsLast, both_last, end_last, image}
 use Rattle.ak_syntax.proofs.Shapes.{params_last, IsRowOf}
+use Rattle.ak_syntax.proofs.TakenLines.{IsFormOf as IsForm, Completes as IsFound}
 use Rattle.ak_syntax.proofs.RowWords.{statement_complete}
 use Rattle.ak_syntax.proofs.TakenRows.{statement_sound}
 
 -- the line of this number has the form: its first word, and those that were taken
 abbrev pub IsFormOf : ℕ → List ℕ → Cursor → Form → Cursor → Type 0
-IsFormOf number word c f left = IsShaped f × HasNumber f number × Meets c.faulty (places f) (word ∷ c.words) left.faulty
+IsFormOf number word c f left = IsForm rules number word c f left
 
 pub mapped_sound : {A B : Type 0} (f : A → B) {good : A → Type 0} {shape : A → List Place} {part : Part A} → IsLast good shape part
     → (c left : Cursor) (b : B) → mapped f part c ≡ Ok (b, left)
@@ -245,7 +246,7 @@ no_row_async c = refl
 
 -- what is found for the form
 abbrev pub Completes : ℕ → List ℕ → Cursor → Form → Bool → Type 0
-Completes number word c f after = (left : Cursor) × (form_from number word c ≡ Ok (f, left)) × (left.faulty ≡ after)
+Completes number word c f after = IsFound taking number word c f after
 
 plain_choice : (number : ℕ) (word : List ℕ) (c : Cursor) → bytes_eq word (codes "proc") ≡ false → bytes_eq word (codes "end") ≡ false
     → bytes_eq word (codes "if") ≡ false → bytes_eq word (codes "unless") ≡ false

@@ -1,7 +1,8 @@
 -- How the reader goes along a list.
-use Rattle.std.proofs.Common.{◌≡◌, ℕ, ◌<◌, Bool, true, false, ◌||◌, List, [], ◌∷◌, ◌++◌, length, Option, Some, None, Result, Ok, Err, refl, sym, ap, ◌∙◌, subst, cond, arith, append_assoc}
+use Rattle.std.proofs.Common.{◌≡◌, ℕ, ◌<◌, Bool, true, false, ◌||◌, List, [], ◌∷◌, ◌++◌, map, length, Option, Some, None, Result, Ok, Err, refl, sym, ap, ◌∙◌, subst, cond, arith, append_assoc}
 use Rattle.std.proofs.lemmas.List.{append-nil}
 use Rattle.std.specs.Prelude.{codes}
+use Rattle.std.specs.List.{list_any}
 use Rattle.std.specs.Str.{bytes_eq}
 use Rattle.ak_script.specs.declared.statement.Atom.{Atom}
 use Rattle.ak_script.specs.declared.statement.Choice.{Choice}
@@ -15,6 +16,10 @@ use Rattle.ak_syntax.specs.declared.refusal.Fault.TheVariants.{Grammar, NoMemory
 use Rattle.ak_syntax.specs.Names.{is_name}
 use Rattle.ak_syntax.proofs.Found.{ok_pair, some_is, bind_ok, bind_is, bind_err, good_pair, if_not}
 use Rattle.ak_syntax.specs.Words.{Bad, bad, ◌>>=◌, Refuses, listed_from, listed_at, list_from, ends_list, is_line_end, name_found, name_at, word_at, atom_found, raise_at, guard_args_from, choices_from, plain, word_from}
+
+pub any_mapped : {A B : Type 0} (p : B → Bool) (f : A → B) (xs : List A) → list_any p (map f xs) ≡ list_any (λ x. p (f x)) xs
+any_mapped p f [] = refl
+any_mapped p f (x ∷ xs) = ap (λ b. p (f x) || b) (any_mapped p f xs)
 
 -- the items that were read are put in front
 abbrev pub with_front : {T : Type 0} → List T → Result (List T × Cursor) Bad → Result (List T × Cursor) Bad

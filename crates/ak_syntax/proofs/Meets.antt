@@ -3,7 +3,7 @@ use Rattle.std.proofs.Common.{◌≡◌, ℕ, Bool, true, false, ◌||◌, ◌�
 use Rattle.std.specs.List.{AllZip}
 use Rattle.ak_script.specs.declared.statement.Atom.TheVariants.{Literal, Local}
 use Rattle.ak_syntax.specs.Table.{Place, Exactly, Named, Valued, Counted, Typed, Stands}
-use Rattle.ak_syntax.specs.Faults.{IsFaulty, HasZero, Fits, SomeZip}
+use Rattle.ak_syntax.specs.Rules.{IsFaulty, HasZero, Fits, SomeZip}
 
 -- the words are those of the places, from a flag before them to the flag behind: a faulty number raises it
 abbrev pub Meets : Bool → List Place → List (List ℕ) → Bool → Type 0

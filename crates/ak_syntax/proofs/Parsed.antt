@@ -1,90 +1,70 @@
 -- A text is a script, or has one fault.
-use Rattle.std.proofs.Common.{◌≡◌, ℕ, ◌+◌, ◌<◌, ◌≤◌, Bool, true, false, ◌⊎◌, inl, inr, Option, Some, None, Result, Ok, Err, List, [], ◌∷◌, ◌++◌, length, filter, refl, sym, ap, ◌∙◌, subst, arith}
+use Rattle.std.proofs.Common.{◌≡◌, ℕ, ◌+◌, ◌<◌, ◌≤◌, true, false, cond, ◌⊎◌, inl, inr, Option, Some, None, is_some, Result, Ok, Err, List, [], ◌∷◌, ◌++◌, length, filter, refl, sym, ap, ◌∙◌, subst, arith}
 use Rattle.std.proofs.lemmas.List.{append-nil}
 use Rattle.std.specs.List.{AllZip, AllByRecursion}
-use Rattle.ak_base.proofs.Lists.{all_between}
-use Rattle.ak_text.specs.Lines.{TextLine, text_lines, numbered, lines_of, counts}
+use Rattle.ak_text.specs.Lines.{TextLine, text_lines, counts}
 use Rattle.ak_script.specs.Statements.{IsFormed, ProcIsFormed}
 use Rattle.ak_script.specs.declared.script.Statement.{Statement}
 use Rattle.ak_script.specs.declared.script.Proc.{Proc}
 use Rattle.ak_syntax.specs.declared.line_form.Form.{Form}
+use Rattle.ak_syntax.specs.declared.refusal.Fault.{Fault}
+use Rattle.ak_syntax.specs.declared.refusal.Fault.TheVariants as fault
+use Rattle.ak_syntax.specs.declared.refusal.Fault.TheVariants.{Grammar}
 use Rattle.ak_syntax.specs.declared.refusal.GrammarKind.{GrammarKind}
 use Rattle.ak_syntax.specs.declared.refusal.GrammarKind.TheVariants.{BadLine, TooLong}
 use Rattle.ak_syntax.specs.declared.refusal.ParseRefused.{ParseRefused}
 use Rattle.ak_syntax.specs.declared.refusal.ParseRefused.TheVariants.{At, NoMemory}
 use Rattle.ak_syntax.specs.Answers.{IsScript, IsFault, IsRight}
-use Rattle.ak_syntax.specs.Faults.{kind_number, Front, IsFront, HasFaultAt, EndsInside, GrammarFault}
+use Rattle.ak_syntax.specs.Faults.{kind_number, Front, IsFront, GrammarFault, rules}
 use Rattle.ak_syntax.specs.declared.version.Version.{Version}
 use Rattle.ak_syntax.specs.Grammar.{Reads, IsLine, StatementIsWithin, ProcIsWithin, version_forms, forms}
-use Rattle.ak_syntax.specs.Lines.{Placed, scanned, no_lines, closed_by, Tells}
-use Rattle.ak_syntax.proofs.Fronts.{front_of, fault_is}
-use Rattle.ak_syntax.proofs.Walks.{walk, walk_next, last_number, closed, scanned_walk, walk_kept, walk_append, walk_ok, walk_err, AllCount, front_walked}
+use Rattle.ak_syntax.specs.Lines.{no_lines, refused_of, taken, taking, Refuses, Tells}
+use Rattle.ak_syntax.specs.Takings.{scanned}
+use Rattle.ak_syntax.proofs.Found.{if_so}
+use Rattle.ak_syntax.proofs.Fronts.{front_of, front_with}
+use Rattle.ak_syntax.proofs.TakenTexts.{Scanned, read, refused, ended_scanned, fault_scanned, front_scanned, next_scanned, refused_scanned, text_scanned}
+use Rattle.ak_syntax.proofs.Walks.{is_read}
 
--- ---- the lines that count
-one_counts : (line : TextLine) (lines : List TextLine) (b : Bool) → counts line ≡ b → AllCount (filter counts lines) → AllCount (filter counts (line ∷ lines))
-one_counts line lines true e h = rw e (e, h)
-one_counts line lines false e h = rw e h
+abbrev Found : Type 0
+Found = Result Front (ℕ × GrammarKind)
 
-all_count : (lines : List TextLine) → AllCount (filter counts lines)
-all_count [] = tt
-all_count (line ∷ lines) = one_counts line lines (counts line) refl (all_count lines)
+abbrev found : List ℕ → Found
+found bytes = scanned taking no_lines 0 (text_lines bytes)
 
-abbrev kept : List ℕ → List TextLine
-kept bytes = filter counts (text_lines bytes)
+-- what is found of a text
+abbrev Read : List ℕ → Type 0
+Read bytes = Scanned rules bytes (found bytes)
 
-abbrev walked : List ℕ → Result Front Placed
-walked bytes = walk no_lines (kept bytes)
+text_read : (bytes : List ℕ) → Read bytes
+text_read bytes = text_scanned rules taking front_with no_lines is_read bytes
 
--- the number of the last line
-last_numbered : (lines : List (List ℕ)) (n : ℕ) → last_number n (numbered (n + 1) lines) ≡ n + length (numbered (n + 1) lines)
-last_numbered [] n = omega arith
-last_numbered (line ∷ lines) n = let later = last_numbered lines (n + 1) in omega (arith, later)
+ok_is : {a b : Front} → (let x : Found = Ok a in x ≡ Ok b) → a ≡ b
+ok_is e = cc
 
-last_line : (bytes : List ℕ) → last_number 0 (text_lines bytes) ≡ length (text_lines bytes)
-last_line bytes = let e = last_numbered (lines_of bytes) 0 in omega (arith, e)
+place_is : {a b : ℕ × GrammarKind} → (let x : Found = Err a in x ≡ Err b) → a ≡ b
+place_is e = cc
 
-pub scan_is : (bytes : List ℕ) → scanned no_lines 0 (text_lines bytes) ≡ closed (length (text_lines bytes)) (walked bytes)
-scan_is bytes =
-    scanned_walk (text_lines bytes) no_lines 0 ∙ ap (λ (n : ℕ). closed n (walk no_lines (text_lines bytes))) (last_line bytes)
-    ∙ ap (closed (length (text_lines bytes))) (walk_kept (text_lines bytes) no_lines)
+not_both : (a : Front) (p : ℕ × GrammarKind) → (let x : Found = Ok a in x ≡ Err p) → ⊥
+not_both a p e = cc
 
-no_front : IsFront no_lines []
-no_front = record { lines = tt; procs = omega arith; each = tt }
-
--- ---- what is found is right
-abbrev pub RightOf : List ℕ → Result (List Proc) Placed → Type 0
-RightOf bytes (Ok script) = Reads bytes script
-RightOf bytes (Err p) = GrammarFault bytes p.0 p.1
-
-front_reads : (bytes : List ℕ) (v : Version) (procs : List Proc) → length bytes ≤ 1048576 → IsFront (front_of v procs) (kept bytes) → Reads bytes procs
+-- ---- scripts and their lines
+front_reads : (bytes : List ℕ) (v : Version) (procs : List Proc) → length bytes ≤ 1048576
+    → IsFront (front_of v procs) (filter counts (text_lines bytes)) → Reads bytes procs
 front_reads bytes v procs size h = record {
   size = size;
   of_version = v;
-  lines = subst (λ (fs : List Form). AllZip IsLine (version_forms v ++ fs) (kept bytes)) (append-nil (forms procs)) h.lines;
+  lines = subst (λ (fs : List Form). AllZip IsLine (version_forms v ++ fs) (filter counts (text_lines bytes))) (append-nil (forms procs)) h.lines;
   procs = subst (λ (ps : List Proc). length ps ≤ 4096) (append-nil procs) h.procs;
   each = subst (λ (ps : List Proc). AllByRecursion (ProcIsWithin v) ps) (append-nil procs) h.each;
 }
 
-reads_front : (bytes : List ℕ) (script : List Proc) (h : Reads bytes script) → IsFront (front_of h.of_version script) (kept bytes)
+reads_front : (bytes : List ℕ) (script : List Proc) (h : Reads bytes script) → IsFront (front_of h.of_version script) (filter counts (text_lines bytes))
 reads_front bytes script h = record {
-  lines = subst (λ (fs : List Form). AllZip IsLine (version_forms h.of_version ++ fs) (kept bytes)) (sym (append-nil (forms script))) h.lines;
+  lines = subst (λ (fs : List Form). AllZip IsLine (version_forms h.of_version ++ fs) (filter counts (text_lines bytes))) (sym (append-nil (forms script)))
+      h.lines;
   procs = subst (λ (ps : List Proc). length ps ≤ 4096) (sym (append-nil script)) h.procs;
   each = subst (λ (ps : List Proc). AllByRecursion (ProcIsWithin h.of_version) ps) (sym (append-nil script)) h.each;
 }
-
-closed_right : (bytes : List ℕ) → length bytes ≤ 1048576 → (w : Result Front Placed) → walked bytes ≡ w → RightOf bytes (closed (length (text_lines bytes)) w)
-closed_right bytes size (Ok front) is = of front.begun refl (walk_ok (kept bytes) no_lines front [] (all_count (text_lines bytes)) no_front is)
-  where
-    of : (begun : Option Proc) → front.begun ≡ begun → IsFront front (kept bytes) → RightOf bytes (closed_by (length (text_lines bytes)) front.procs begun)
-    of None e h = front_reads bytes front.of_version front.procs size
-        (subst (λ (b : Option Proc). IsFront (record { of_version = front.of_version; procs = front.procs; begun = b }) (kept bytes)) e h)
-    of (Some proc) e h = inr (size, inr (record { front = front; proc = proc; begun = e; right = h; at = refl; is_bad = refl }))
-closed_right bytes size (Err p) is =
-    let x = walk_err (kept bytes) no_lines p.0 p.1 [] (all_count (text_lines bytes)) no_front is in
-    inr (size, inl (record { front = x.front; before = x.some; line = x.line; after = x.after; lines = x.are; right = x.right; fault = x.fault; at = x.at }))
-
-pub found_right : (bytes : List ℕ) → length bytes ≤ 1048576 → RightOf bytes (scanned no_lines 0 (text_lines bytes))
-found_right bytes size = subst (RightOf bytes) (sym (scan_is bytes)) (closed_right bytes size (walked bytes) refl)
 
 -- ---- what is found has the form of the grammar
 formed_of : (v : Version) (body : List Statement) → AllByRecursion (StatementIsWithin v) body → AllByRecursion IsFormed body
@@ -95,76 +75,94 @@ all_formed : (v : Version) (procs : List Proc) → AllByRecursion (ProcIsWithin 
 all_formed v [] h = tt
 all_formed v (proc ∷ procs) h = (formed_of v proc.body h.0.each, all_formed v procs h.1)
 
-pub found_formed : (bytes : List ℕ) (procs : List Proc) → length bytes ≤ 1048576 → scanned no_lines 0 (text_lines bytes) ≡ Ok procs
+pub found_formed : (bytes : List ℕ) (v : Version) (procs : List Proc) → length bytes ≤ 1048576 → found bytes ≡ Ok (front_of v procs)
     → AllByRecursion ProcIsFormed procs
-found_formed bytes procs size is =
-    let reads : Reads bytes procs = subst (RightOf bytes) is (found_right bytes size) in
-    all_formed reads.of_version procs reads.each
+found_formed bytes v procs size is = of (text_read bytes)
+  where
+    of : Read bytes → AllByRecursion ProcIsFormed procs
+    of (read front right closed e) =
+        let here : IsFront (front_of v procs) (filter counts (text_lines bytes)) =
+        subst (λ (f : Front). IsFront f (filter counts (text_lines bytes))) (ok_is (sym e ∙ is)) right in
+        let reads : Reads bytes procs = front_reads bytes v procs size here in
+        all_formed reads.of_version procs reads.each
+    of (refused number kind fault e) = absurd (not_both (front_of v procs) (number, kind) (sym is ∙ e))
 
 -- ---- what is right is found
-pub reads_found : (bytes : List ℕ) (script : List Proc) → Reads bytes script → scanned no_lines 0 (text_lines bytes) ≡ Ok script
+reads_found : (bytes : List ℕ) (script : List Proc) (h : Reads bytes script) → found bytes ≡ Ok (front_of h.of_version script)
 reads_found bytes script h =
-    scan_is bytes ∙ ap (closed (length (text_lines bytes))) (front_walked (front_of h.of_version script) (kept bytes) (reads_front bytes script h))
+    front_scanned rules taking front_with no_lines is_read bytes (front_of h.of_version script) (reads_front bytes script h) refl
 
-fault_found : (bytes : List ℕ) (number : ℕ) (kind : GrammarKind) → HasFaultAt bytes number kind → walked bytes ≡ Err (number, kind)
-fault_found bytes number kind h =
-    let counted : counts h.line ≡ true =
-    all_between (λ line. counts line ≡ true) h.before h.after h.line (subst AllCount h.lines (all_count (text_lines bytes))) in
-    ap (walk no_lines) h.lines ∙ walk_append h.before (h.line ∷ h.after) no_lines h.front (front_walked h.front h.before h.right)
-    ∙ ap (λ (r : Result Front GrammarKind). walk_next h.line.number r (λ n. walk n h.after))
-    (fault_is h.front h.line kind counted h.fault) ∙ ap (λ (n : ℕ). placed n kind) (sym h.at)
-  where
-    placed : ℕ → GrammarKind → Result Front Placed
-    placed n k = Err (n, k)
-
-end_found : (bytes : List ℕ) (number : ℕ) (kind : GrammarKind) → EndsInside bytes number kind → scanned no_lines 0 (text_lines bytes) ≡ Err (number, kind)
-end_found bytes number kind h =
-    scan_is bytes ∙ ap (closed (length (text_lines bytes))) (front_walked h.front (kept bytes) h.right)
-    ∙ ap (closed_by (length (text_lines bytes)) h.front.procs) h.begun ∙ ap (λ (n : ℕ). script_fault n BadLine) (sym h.at)
-    ∙ ap (script_fault number) (sym h.is_bad)
-  where
-    script_fault : ℕ → GrammarKind → Result (List Proc) Placed
-    script_fault n k = Err (n, k)
-
-pub faults_found : (bytes : List ℕ) (number : ℕ) (kind : GrammarKind) → length bytes ≤ 1048576 → GrammarFault bytes number kind
-    → scanned no_lines 0 (text_lines bytes) ≡ Err (number, kind)
+faults_found : (bytes : List ℕ) (number : ℕ) (kind : GrammarKind) → length bytes ≤ 1048576 → GrammarFault bytes number kind
+    → found bytes ≡ Err (number, kind)
 faults_found bytes number kind size (inl h) = absurd (omega (arith, h.size, size))
-faults_found bytes number kind size (inr (s, inl h)) = scan_is bytes ∙ ap (closed (length (text_lines bytes))) (fault_found bytes number kind h)
-faults_found bytes number kind size (inr (s, inr h)) = end_found bytes number kind h
+faults_found bytes number kind size (inr h) = fault_scanned rules taking front_with no_lines is_read bytes number kind h.1
 
 -- ---- answers
-pub tells_right : (bytes : List ℕ) (r : Result (List Proc) ParseRefused) (found : Result (List Proc) Placed) → Tells r found
-    → RightOf bytes found → IsRight bytes r
-tells_right bytes (Ok script) found h right = subst (RightOf bytes) h right
-tells_right bytes (Err (At line kind)) found h right = (h.0, h.1, subst (RightOf bytes) h.2 right)
-tells_right bytes (Err NoMemory) found h right = tt
+pub tells_right : (bytes : List ℕ) (r : Result (List Proc) ParseRefused) → length bytes ≤ 1048576 → Tells r (found bytes) → IsRight bytes r
+tells_right bytes r size h = of r h (text_read bytes)
+  where
+    of : (r : Result (List Proc) ParseRefused) → Tells r (found bytes) → Read bytes → IsRight bytes r
+    of (Ok script) h (read front right closed is) =
+        front_reads bytes h.0 script size (subst (λ (f : Front). IsFront f (filter counts (text_lines bytes))) (ok_is (sym is ∙ h.1)) right)
+    of (Ok script) h (refused number kind fault is) = absurd (not_both (front_of h.0 script) (number, kind) (sym h.1 ∙ is))
+    of (Err (At line number)) h (read front right closed is) = absurd (not_both front (line, h.0) (sym is ∙ h.2))
+    of (Err (At line number)) h (refused at kind fault is) =
+        (h.0, h.1, subst (λ (p : ℕ × GrammarKind). GrammarFault bytes p.0 p.1) (place_is (sym is ∙ h.2)) (inr (size, fault)))
+    of (Err NoMemory) h x = tt
 
-script_is : {a b : List Proc} → (let r : Result (List Proc) Placed = Ok a in r ≡ Ok b) → a ≡ b
-script_is e = cc
+pub tells_script : (bytes : List ℕ) (r : Result (List Proc) ParseRefused) (script : List Proc) → Tells r (found bytes) → Reads bytes script
+    → IsScript r script
+tells_script bytes r script h reads = of r h (reads_found bytes script reads)
+  where
+    of : (r : Result (List Proc) ParseRefused) → Tells r (found bytes) → found bytes ≡ Ok (front_of reads.of_version script) → IsScript r script
+    of (Ok other) h is = ap (λ (f : Front). f.procs) (ok_is (sym h.1 ∙ is))
+    of (Err (At line number)) h is = not_both (front_of reads.of_version script) (line, h.0) (sym is ∙ h.2)
+    of (Err NoMemory) h is = tt
 
-place_is : {a b : Placed} → (let r : Result (List Proc) Placed = Err a in r ≡ Err b) → a ≡ b
-place_is e = cc
+pub tells_fault : (bytes : List ℕ) (r : Result (List Proc) ParseRefused) (line : ℕ) (kind : GrammarKind) → length bytes ≤ 1048576
+    → Tells r (found bytes) → GrammarFault bytes line kind → IsFault r line kind
+tells_fault bytes r line kind size h fault = of r h (faults_found bytes line kind size fault)
+  where
+    of : (r : Result (List Proc) ParseRefused) → Tells r (found bytes) → found bytes ≡ Err (line, kind) → IsFault r line kind
+    of (Ok script) h is = not_both (front_of h.0 script) (line, kind) (sym h.1 ∙ is)
+    of (Err (At at number)) h is =
+        let same = place_is (sym h.2 ∙ is) in
+        (ap (λ (p : ℕ × GrammarKind). p.0) same, h.1 ∙ ap (λ (p : ℕ × GrammarKind). kind_number p.1) same)
+    of (Err NoMemory) h is = tt
 
-not_both : (a : List Proc) (p : Placed) → (let r : Result (List Proc) Placed = Ok a in r ≡ Err p) → ⊥
-not_both a p e = cc
+-- ---- one line after the other
+pub refused_tells : (front : Front) (last : ℕ) (left rest : List TextLine) (line : TextLine) (fault : Fault) (whole : Found)
+    → scanned taking front last left ≡ whole → left ≡ line ∷ rest → Refuses fault (taken front line)
+    → Tells (Err (refused_of line.number fault)) whole
+unfolding taken
+refused_tells front last left rest line (Grammar kind) whole same is h =
+    (kind, refl, refused_scanned taking front last left rest line kind whole same is h)
+refused_tells front last left rest line fault.NoMemory whole same is h = tt
 
-pub tells_script : (r : Result (List Proc) ParseRefused) (found : Result (List Proc) Placed) (script : List Proc) → Tells r found
-    → found ≡ Ok script → IsScript r script
-tells_script (Ok other) found script h is = script_is (sym h ∙ is)
-tells_script (Err (At line kind)) found script h is = not_both script (line, h.0) (sym is ∙ h.2)
-tells_script (Err NoMemory) found script h is = tt
+pub next_found : (front next : Front) (last : ℕ) (left rest : List TextLine) (line : TextLine) (whole : Found)
+    → scanned taking front last left ≡ whole → left ≡ line ∷ rest → taken front line ≡ Ok next → scanned taking next line.number rest ≡ whole
+unfolding taken
+next_found front next last left rest line whole same is h = next_scanned taking front next last left rest line whole same is h
 
-pub tells_fault : (r : Result (List Proc) ParseRefused) (found : Result (List Proc) Placed) (line : ℕ) (kind : GrammarKind)
-    → Tells r found → found ≡ Err (line, kind) → IsFault r line kind
-tells_fault (Ok script) found line kind h is = not_both script (line, kind) (sym h ∙ is)
-tells_fault (Err (At at number)) found line kind h is =
-    let same = place_is (sym h.2 ∙ is) in
-    (ap (λ (p : Placed). p.0) same, h.1 ∙ ap (λ (p : Placed). kind_number p.1) same)
-tells_fault (Err NoMemory) found line kind h is = tt
+pub closed_found : (front : Front) (last : ℕ) (left : List TextLine) (whole : Found) → scanned taking front last left ≡ whole
+    → left ≡ [] → is_some front.begun ≡ false → whole ≡ Ok (front_of front.of_version front.procs)
+closed_found front last left whole same none closed = ended_scanned taking front last left whole same none ∙ of front.begun closed
+  where
+    of : (begun : Option Proc) → is_some begun ≡ false
+        → cond {A = Found} (is_some begun) (Err (last + 1, BadLine))
+        (Ok (record { of_version = front.of_version; procs = front.procs; begun = begun }))
+        ≡ Ok (front_of front.of_version front.procs)
+    of None e = refl
+    of (Some proc) e = cc
+
+pub open_found : (front : Front) (last : ℕ) (left : List TextLine) (whole : Found) → scanned taking front last left ≡ whole
+    → left ≡ [] → is_some front.begun ≡ true → whole ≡ Err (last + 1, BadLine)
+open_found front last left whole same none opened =
+    ended_scanned taking front last left whole same none ∙ if_so (is_some front.begun) (Err (last + 1, BadLine)) (Ok front) opened
 
 -- ---- laws
 pub one_script : (bytes : List ℕ) (a b : List Proc) → Reads bytes a → Reads bytes b → a ≡ b
-one_script bytes a b h k = script_is (sym (reads_found bytes a h) ∙ reads_found bytes b k)
+one_script bytes a b h k = ap (λ (f : Front). f.procs) (ok_is (sym (reads_found bytes a h) ∙ reads_found bytes b k))
 
 long_is : (bytes : List ℕ) (line : ℕ) (kind : GrammarKind) → 1048576 < length bytes → GrammarFault bytes line kind → (line ≡ 0) × (kind ≡ TooLong)
 long_is bytes line kind long (inl h) = (h.at, h.is_long)
@@ -174,18 +172,26 @@ pub one_fault_at : (bytes : List ℕ) (l m : ℕ) (j k : GrammarKind) → Gramma
 one_fault_at bytes l m j k (inl h) y = let a = long_is bytes m k h.size y in (h.at ∙ sym a.0, h.is_long ∙ sym a.1)
 one_fault_at bytes l m j k (inr h) y =
     let same = place_is (sym (faults_found bytes l j h.0 (inr h)) ∙ faults_found bytes m k h.0 y) in
-    (ap (λ (p : Placed). p.0) same, ap (λ (p : Placed). p.1) same)
+    (ap (λ (p : ℕ × GrammarKind). p.0) same, ap (λ (p : ℕ × GrammarKind). p.1) same)
 
 pub never_both : (bytes : List ℕ) (script : List Proc) (line : ℕ) (kind : GrammarKind) → Reads bytes script → GrammarFault bytes line kind → ⊥
-never_both bytes script line kind h fault = not_both script (line, kind) (sym (reads_found bytes script h) ∙ faults_found bytes line kind h.size fault)
+never_both bytes script line kind h fault =
+    not_both (front_of h.of_version script) (line, kind) (sym (reads_found bytes script h) ∙ faults_found bytes line kind h.size fault)
 
 -- a text is a script or has a fault
 abbrev pub IsEither : List ℕ → Type 0
 IsEither bytes = ((script : List Proc) × Reads bytes script) ⊎ ((line : ℕ) × (kind : GrammarKind) × GrammarFault bytes line kind)
 
-either_of : (bytes : List ℕ) (found : Result (List Proc) Placed) → RightOf bytes found → IsEither bytes
-either_of bytes (Ok script) h = inl (script, h)
-either_of bytes (Err p) h = inr (p.0, p.1, h)
+closed_reads : (bytes : List ℕ) → length bytes ≤ 1048576 → (front : Front) → IsFront front (filter counts (text_lines bytes))
+    → (begun : Option Proc) → front.begun ≡ begun → is_some begun ≡ false → Reads bytes front.procs
+closed_reads bytes size front h None e closed =
+    front_reads bytes front.of_version front.procs size
+    (subst (λ (b : Option Proc). IsFront (record { of_version = front.of_version; procs = front.procs; begun = b }) (filter counts (text_lines bytes))) e h)
+closed_reads bytes size front h (Some proc) e closed = cc
+
+either_of : (bytes : List ℕ) → length bytes ≤ 1048576 → Read bytes → IsEither bytes
+either_of bytes size (read front right closed is) = inl (front.procs, closed_reads bytes size front right front.begun refl closed)
+either_of bytes size (refused number kind fault is) = inr (number, kind, inr (size, fault))
 
 size_of : (n : ℕ) → (n ≤ 1048576) ⊎ (1048576 < n)
 size_of n = grind arith
@@ -194,5 +200,5 @@ pub either : (bytes : List ℕ) → IsEither bytes
 either bytes = of (size_of (length bytes))
   where
     of : ((length bytes ≤ 1048576) ⊎ (1048576 < length bytes)) → IsEither bytes
-    of (inl small) = either_of bytes (scanned no_lines 0 (text_lines bytes)) (found_right bytes small)
+    of (inl small) = either_of bytes small (text_read bytes)
     of (inr long) = inr (0, TooLong, inl (record { size = long; at = refl; is_long = refl }))

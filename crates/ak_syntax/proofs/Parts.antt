@@ -4,7 +4,7 @@ use Rattle.ak_syntax.specs.declared.cursor.Cursor.{Cursor}
 use Rattle.ak_syntax.specs.declared.cursor.Until.{Until}
 use Rattle.ak_syntax.specs.declared.cursor.Until.TheVariants.{LineEnd}
 use Rattle.ak_syntax.specs.Table.{Place, Exactly, Stands}
-use Rattle.ak_syntax.specs.Faults.{IsFaulty}
+use Rattle.ak_syntax.specs.Rules.{IsFaulty}
 use Rattle.ak_syntax.specs.Words.{Bad, bad, ◌>>=◌, Part, both, mapped, marked, word_from, end_from, end_at, plain, list_from, list_at, ends_list, is_line_end, some_of}
 use Rattle.ak_syntax.proofs.Found.{ok_pair, bind_ok, bind_is, if_not, if_so, chosen, good_pair}
 use Rattle.ak_syntax.proofs.Meets.{Meets, Case, step, unstep}

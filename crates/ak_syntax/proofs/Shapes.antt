@@ -30,7 +30,7 @@ args_last = list_last Valued atom_found atom_item
 pub params_last : IsLast (Always {T = List Param}) (λ (xs : List Param). map Typed xs) params_at
 params_last = list_last Typed (plain param_found) (plain_item Typed param_found param_plain)
 
-names_last : IsLast (Always {T = List (List ℕ)}) (λ (xs : List (List ℕ)). map Named xs) (names_at LineEnd)
+pub names_last : IsLast (Always {T = List (List ℕ)}) (λ (xs : List (List ℕ)). map Named xs) (names_at LineEnd)
 names_last = list_last Named (plain name_found) (plain_item Named name_found name_plain)
 
 pub some_names_last : IsLast (λ (xs : List (List ℕ)). 1 ≤ length xs) (λ (xs : List (List ℕ)). map Named xs) (some_names_at LineEnd)
@@ -65,7 +65,7 @@ name_other : (stop : List ℕ) → is_name stop ≡ false → (word name : List 
 name_other stop none word name false h = not_name word stop (named_is word name h) none
 name_other stop none word name true h = absurd h.0
 
-else_part : IsPart (Always {T = List Atom}) (λ (xs : List Atom) (places : List Place). map Valued xs ++ Exactly (codes "else") ∷ places) (args_at Else)
+pub else_part : IsPart (Always {T = List Atom}) (λ (xs : List Atom) (places : List Place). map Valued xs ++ Exactly (codes "else") ∷ places) (args_at Else)
 else_part = list_part Valued atom_found Else (codes "else") atom_item
     (record { inside = refl; found = λ word e. (bytes_eq-Decides word (codes "else")).0 e; there = refl; other = atom_other (codes "else") refl refl })
 

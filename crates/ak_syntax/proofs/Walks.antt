@@ -1,9 +1,9 @@
--- All lines of a text, one behind the other.
-use Rattle.std.proofs.Common.{◌≡◌, ℕ, ◌+◌, ◌<◌, ◌≤◌, Bool, true, false, inl, inr, Option, Some, None, Result, Ok, Err, List, [], ◌∷◌, ◌++◌, length, map, filter, refl, sym, ap, ◌∙◌, subst, arith, append_assoc, length-append}
+-- The first lines of a script go on with right lines, and lead to what they are.
+use Rattle.std.proofs.Common.{◌≡◌, ℕ, ◌+◌, ◌<◌, ◌≤◌, true, inl, inr, Option, Some, None, Ok, List, [], ◌∷◌, ◌++◌, length, map, refl, sym, ap, ◌∙◌, subst, arith, append_assoc, length-append}
 use Rattle.std.proofs.lemmas.List.{append-nil, map-append}
 use Rattle.std.specs.List.{AllZip, AllByRecursion, flat_map}
 use Rattle.ak_base.proofs.Lists.{all_push, all_front, all_between}
-use Rattle.ak_text.specs.Lines.{TextLine, words_of, counts}
+use Rattle.ak_text.specs.Lines.{TextLine, words_of}
 use Rattle.ak_script.specs.declared.script.Param.{Param}
 use Rattle.ak_script.specs.declared.script.Prefix.{Prefix}
 use Rattle.ak_script.specs.declared.script.Prefix.TheVariants.{If, Unless}
@@ -13,92 +13,25 @@ use Rattle.ak_script.specs.declared.statement.Stmt.{Stmt}
 use Rattle.ak_script.specs.declared.statement.Stmt.TheVariants.{Upon, Bind, All, Any, Choose, Sched, Low, Within, OnError, Try, Throttle, Enqueue, Pipe, Read}
 use Rattle.ak_syntax.specs.declared.line_form.Form.{Form}
 use Rattle.ak_syntax.specs.declared.line_form.Form.TheVariants.{Async, Head, Body, End}
-use Rattle.ak_syntax.specs.declared.refusal.GrammarKind.{GrammarKind}
-use Rattle.ak_syntax.specs.declared.refusal.GrammarKind.TheVariants.{BadLine, TooMany, BadNumber}
 use Rattle.ak_syntax.specs.declared.version.Version.{Version}
 use Rattle.ak_syntax.specs.declared.version.Version.TheVariants as version
 use Rattle.ak_script.specs.Statements.{binds, IsWithin}
 use Rattle.ak_syntax.specs.Table.{Stands, row, longest_list, HasDeferreds, is_in}
 use Rattle.ak_syntax.specs.Grammar.{prefix_places, IsLine, locals, version_forms, forms, StatementIsWithin, ProcIsWithin}
-use Rattle.ak_syntax.specs.Faults.{IsShaped, Front, begun_forms, begun_procs, IsFront, IsEmpty, MayFollow, Exceeds, LineFault}
-use Rattle.ak_syntax.specs.Lines.{Placed, scanned, taken, then_lines, closed_by, grown, no_lines}
-use Rattle.ak_syntax.proofs.Fronts.{front_with, front_of, front_in, outcome, misplaced, over, wrong, right, Read as ReadLine, shapeless, read, line_read, line_skipped, clean_line, fault_found, right_taken}
-
--- ---- walking over lines
-abbrev pub walk_next : ℕ → Result Front GrammarKind → (Front → Result Front Placed) → Result Front Placed
-walk_next number (Ok next) rest = rest next
-walk_next number (Err kind) rest = Err (number, kind)
-
-abbrev pub walk : Front → List TextLine → Result Front Placed
-walk front [] = Ok front
-walk front (line ∷ lines) = walk_next line.number (taken front line) (λ next. walk next lines)
-
-abbrev pub last_number : ℕ → List TextLine → ℕ
-last_number last [] = last
-last_number last (line ∷ lines) = last_number line.number lines
-
-abbrev pub closed : ℕ → Result Front Placed → Result (List Proc) Placed
-closed last (Ok front) = closed_by last front.procs front.begun
-closed last (Err p) = Err p
-
-pub scanned_walk : (lines : List TextLine) (front : Front) (last : ℕ) → scanned front last lines ≡ closed (last_number last lines) (walk front lines)
-unfolding scanned
-scanned_walk [] front last = refl
-scanned_walk (line ∷ lines) front last = of (taken front line) (λ next. scanned_walk lines next line.number)
-  where
-    of : (r : Result Front GrammarKind) → ((next : Front) → scanned next line.number lines ≡ closed (last_number line.number lines) (walk next lines))
-        → then_lines line.number r (λ next. scanned next line.number lines) ≡ closed (last_number line.number lines)
-        (walk_next line.number r (λ next. walk next lines))
-    of (Ok next) h = h next
-    of (Err kind) h = refl
-
-one_kept : (line : TextLine) (lines : List TextLine) (front : Front) (b : Bool) → counts line ≡ b
-    → ((next : Front) → walk next lines ≡ walk next (filter counts lines)) → walk front (line ∷ lines)
-    ≡ walk front (filter counts (line ∷ lines))
-one_kept line lines front true e ih = rw e (of (taken front line))
-  where
-    of : (r : Result Front GrammarKind) → walk_next line.number r (λ next. walk next lines) ≡ walk_next line.number r (λ next. walk next (filter counts lines))
-    of (Ok next) = ih next
-    of (Err kind) = refl
-one_kept line lines front false e ih =
-    rw e (ap (λ (r : Result Front GrammarKind). walk_next line.number r (λ n. walk n lines)) (line_skipped front line e) ∙ ih front)
-
-pub walk_kept : (lines : List TextLine) (front : Front) → walk front lines ≡ walk front (filter counts lines)
-walk_kept [] front = refl
-walk_kept (line ∷ lines) front = one_kept line lines front (counts line) refl (walk_kept lines)
-
-pub walk_step : (front next : Front) (line : TextLine) (lines : List TextLine) → taken front line ≡ Ok next → walk front (line ∷ lines) ≡ walk next lines
-walk_step front next line lines h = ap (λ (r : Result Front GrammarKind). walk_next line.number r (λ n. walk n lines)) h
-
-abbrev walk_then : Result Front Placed → (Front → Result Front Placed) → Result Front Placed
-walk_then (Ok front) rest = rest front
-walk_then (Err p) rest = Err p
-
-ok_front : {a b : Front} → (let r : Result Front Placed = Ok a in r ≡ Ok b) → a ≡ b
-ok_front e = cc
-
-mixed_up : (p : Placed) (f : Front) → (let r : Result Front Placed = Err p in r ≡ Ok f) → ⊥
-mixed_up p f e = cc
-
-one_append : (x : TextLine) (xs ys : List TextLine) (front mid : Front) (r : Result Front GrammarKind) → taken front x ≡ r → walk front (x ∷ xs) ≡ Ok mid
-    → ((next : Front) → walk next xs ≡ Ok mid → walk next (xs ++ ys) ≡ walk mid ys) → walk front (x ∷ xs ++ ys) ≡ walk mid ys
-one_append x xs ys front mid (Ok next) is h ih = walk_step front next x (xs ++ ys) is ∙ ih next (sym (walk_step front next x xs is) ∙ h)
-one_append x xs ys front mid (Err kind) is h ih =
-    let bad : walk front (x ∷ xs) ≡ Err (x.number, kind) = ap (λ (r : Result Front GrammarKind). walk_next x.number r (λ n. walk n xs)) is in
-    absurd (mixed_up (x.number, kind) mid (sym bad ∙ h))
-
-pub walk_append : (xs ys : List TextLine) (front mid : Front) → walk front xs ≡ Ok mid → walk front (xs ++ ys) ≡ walk mid ys
-walk_append [] ys front mid h = let same : front ≡ mid = ok_front h in ap (λ (f : Front). walk f ys) same
-walk_append (x ∷ xs) ys front mid h = one_append x xs ys front mid (taken front x) refl h (λ next. walk_append xs ys next mid)
+use Rattle.ak_syntax.specs.Faults.{IsShaped, Front, begun_forms, begun_procs, IsFront, IsEmpty, MayFollow, Exceeds, rules}
+use Rattle.ak_syntax.specs.Lines.{grown, no_lines, taking}
+use Rattle.ak_syntax.proofs.Fronts.{front_with, front_of, front_in, takes}
+use Rattle.ak_syntax.proofs.TakenLines.{IsRightLine, right_taken}
+use Rattle.ak_syntax.proofs.TakenTexts.{IsRead, walk, walk_step}
 
 -- ---- limits
-zip_push : {A B : Type 0} (R : A → B → Type 0) (xs : List A) (ys : List B) (x : A) (y : B) → AllZip R xs ys → R x y → AllZip R (xs ++ x ∷ []) (ys ++ y ∷ [])
+pub zip_push : {A B : Type 0} (R : A → B → Type 0) (xs : List A) (ys : List B) (x : A) (y : B) → AllZip R xs ys → R x y → AllZip R (xs ++ x ∷ []) (ys ++ y ∷ [])
 zip_push R [] [] x y h r = (r, tt)
 zip_push R [] (w ∷ ys) x y h r = absurd h
 zip_push R (v ∷ xs) [] x y h r = absurd h
 zip_push R (v ∷ xs) (w ∷ ys) x y h r = (h.0, zip_push R xs ys x y h.1 r)
 
-flat_append : {A B : Type 0} (f : A → List B) (xs ys : List A) → flat_map f (xs ++ ys) ≡ flat_map f xs ++ flat_map f ys
+pub flat_append : {A B : Type 0} (f : A → List B) (xs ys : List A) → flat_map f (xs ++ ys) ≡ flat_map f xs ++ flat_map f ys
 flat_append f [] ys = refl
 flat_append f (x ∷ xs) ys = ap (λ (rest : List _). f x ++ rest) (flat_append f xs ys) ∙ sym (append_assoc (f x) (flat_map f xs) (flat_map f ys))
 
@@ -281,122 +214,36 @@ next_front v procs None (Body statement) before line h is shaped may few = absur
 next_front v procs None End before line h is shaped may few = absurd may
 next_front v procs (Some proc) (Head name number params) before line h is shaped may few = absurd may
 
-ok_is_front : {a b : Front} → (let r : Result Front GrammarKind = Ok a in r ≡ Ok b) → a ≡ b
-ok_is_front e = cc
-
--- a line that is taken behind a front makes another
-line_right : (front next : Front) (before : List TextLine) (line : TextLine) → IsFront front before → counts line ≡ true
-    → taken front line ≡ Ok next → IsFront next (before ++ line ∷ [])
-line_right front next before line h kept is = of (line_read front line kept)
-  where
-    mixed : (kind : GrammarKind) (r : Result Front GrammarKind) → r ≡ Err kind → r ≡ Ok next → ⊥
-    mixed kind r x y = let wrong : Err kind ≡ Ok next = sym x ∙ y in cc
-
-    same_next : (a : Front) (r : Result Front GrammarKind) → r ≡ Ok a → r ≡ Ok next → a ≡ next
-    same_next a r x y = let e : Ok a ≡ Ok next = sym x ∙ y in ok_is_front e
-
-    of : ReadLine front line → IsFront next (before ++ line ∷ [])
-    of (shapeless none r) = absurd (mixed BadLine (taken front line) r is)
-    of (read f faulty s r) = elim (outcome front f faulty) [
-      | misplaced not_may e ↦ absurd (mixed BadLine (taken front line) (r ∙ e) is)
-      | over may ex e ↦ absurd (mixed TooMany (taken front line) (r ∙ e) is)
-      | wrong may not_ex flag e ↦ absurd (mixed BadNumber (taken front line) (r ∙ e) is)
-      | right may not_ex quiet e ↦ subst (λ (n : Front). IsFront n (before ++ line ∷ [])) (same_next (front_with front f) (taken front line) (r ∙ e) is)
-          (next_front front.of_version front.procs front.begun f before line h (clean_line line f faulty s quiet) s.shape.shaped may not_ex)
-    ]
-
--- ---- what was walked is right
-abbrev pub AllCount : List TextLine → Type 0
-AllCount lines = AllByRecursion (λ line. counts line ≡ true) lines
-
-one_ok : (line : TextLine) (lines : List TextLine) (front next : Front) (before : List TextLine) → counts line ≡ true
-    → IsFront front before → (r : Result Front GrammarKind) → taken front line ≡ r → walk front (line ∷ lines) ≡ Ok next
-    → ((mid : Front) → IsFront mid (before ++ line ∷ []) → walk mid lines ≡ Ok next → IsFront next ((before ++ line ∷ []) ++ lines))
-    → IsFront next (before ++ line ∷ lines)
-one_ok line lines front next before kept h (Ok mid) r is ih =
-    subst (λ (ls : List TextLine). IsFront next ls) (append_assoc before (line ∷ []) lines)
-    (ih mid (line_right front mid before line h kept r) (sym (walk_step front mid line lines r) ∙ is))
-one_ok line lines front next before kept h (Err kind) r is ih =
-    let bad : walk front (line ∷ lines) ≡ Err (line.number, kind) = ap (λ (x : Result Front GrammarKind). walk_next line.number x (λ n. walk n lines)) r in
-    absurd (mixed_up (line.number, kind) next (sym bad ∙ is))
-
-pub walk_ok : (lines : List TextLine) (front next : Front) (before : List TextLine) → AllCount lines → IsFront front before
-    → walk front lines ≡ Ok next → IsFront next (before ++ lines)
-walk_ok [] front next before all h is = rw (append-nil before) (subst (λ (f : Front). IsFront f before) (ok_front is) h)
-walk_ok (line ∷ lines) front next before all h is =
-    one_ok line lines front next before all.0 h (taken front line) refl is
-    (λ mid front_is. walk_ok lines mid next (before ++ line ∷ []) all.1 front_is)
-
--- the first line with a fault, behind right ones
-pub record Faulty (before lines : List TextLine) (number : ℕ) (kind : GrammarKind) : Type 0 where
-  pub front : Front
-  pub some : List TextLine
-  pub line : TextLine
-  pub after : List TextLine
-  pub are : lines ≡ some ++ line ∷ after
-  pub right : IsFront front (before ++ some)
-  pub fault : LineFault front line kind
-  pub at : number ≡ line.number
-
-placed_is : {a b : Placed} → (let r : Result Front Placed = Err a in r ≡ Err b) → a ≡ b
-placed_is e = cc
-
-one_err : (line : TextLine) (lines : List TextLine) (front : Front) (number : ℕ) (kind : GrammarKind) (before : List TextLine)
-    → counts line ≡ true → IsFront front before → (r : Result Front GrammarKind) → taken front line ≡ r
-    → walk front (line ∷ lines) ≡ Err (number, kind)
-    → ((mid : Front) → IsFront mid (before ++ line ∷ []) → walk mid lines ≡ Err (number, kind)
-    → Faulty (before ++ line ∷ []) lines number kind) → Faulty before (line ∷ lines) number kind
-one_err line lines front number kind before kept h (Ok mid) r is ih =
-    let x = ih mid (line_right front mid before line h kept r) (sym (walk_step front mid line lines r) ∙ is) in
-    record {
-      front = x.front;
-      some = line ∷ x.some;
-      line = x.line;
-      after = x.after;
-      are = ap (λ (ls : List TextLine). line ∷ ls) x.are;
-      right = subst (λ (ls : List TextLine). IsFront x.front ls) (append_assoc before (line ∷ []) x.some) x.right;
-      fault = x.fault;
-      at = x.at;
-    }
-one_err line lines front number kind before kept h (Err k) r is ih =
-    let found : walk front (line ∷ lines) ≡ Err (line.number, k) = ap (λ (x : Result Front GrammarKind). walk_next line.number x (λ n. walk n lines)) r in
-    let same = placed_is (sym found ∙ is) in
-    let same_kind : k ≡ kind = ap (λ (p : Placed). p.1) same in
-    record {
-      front = front;
-      some = [];
-      line = line;
-      after = lines;
-      are = refl;
-      right = rw (append-nil before) h;
-      fault = subst (LineFault front line) same_kind (fault_found front line k kept r);
-      at = sym (ap (λ (p : Placed). p.0) same);
-    }
-
-pub walk_err : (lines : List TextLine) (front : Front) (number : ℕ) (kind : GrammarKind) (before : List TextLine) → AllCount lines
-    → IsFront front before → walk front lines ≡ Err (number, kind) → Faulty before lines number kind
-walk_err [] front number kind before all h is = absurd cc
-walk_err (line ∷ lines) front number kind before all h is =
-    one_err line lines front number kind before all.0 h (taken front line) refl is
-    (λ mid front_is. walk_err lines mid number kind (before ++ line ∷ []) all.1 front_is)
+goes_on : (front after : Front) (before : List TextLine) (line : TextLine) → IsFront front before
+    → IsRightLine rules front_with front line after → IsFront after (before ++ line ∷ [])
+goes_on front after before line h r =
+    subst (λ (f : Front). IsFront f (before ++ line ∷ [])) (sym r.is)
+    (next_front front.of_version front.procs front.begun r.form before line h
+    (record { good = r.shape.good; number = r.shape.number; words = r.words }) r.shape.shaped r.may r.within)
 
 -- ---- a front is walked
+line_walk : (front : Front) (f : Form) (line : TextLine) (lines : List TextLine) → IsLine f line → IsShaped f → MayFollow front f
+    → (Exceeds front f → ⊥) → walk taking front (line ∷ lines) ≡ walk taking (front_with front f) lines
+line_walk front f line lines is shaped may few =
+    walk_step taking front (front_with front f) line lines
+    (right_taken rules taking front_with takes front line f is.good is.number is.words shaped may few)
+
 abbrev KeepsLimits : Version → Proc → List Statement → Type 0
 KeepsLimits v proc body = ProcIsWithin v (with_body proc body)
 
 walk_body : (v : Version) (body : List Statement) (procs : List Proc) (proc : Proc) (fs : List Form) (lines : List TextLine)
     → KeepsLimits v proc (proc.body ++ body) → AllZip IsLine (map Body body ++ fs) lines
-    → (rest : List TextLine) × AllZip IsLine fs rest × (walk (front_in v procs proc) lines ≡ walk (front_in v procs (with_body proc (proc.body ++ body))) rest)
+    → (rest : List TextLine) × AllZip IsLine fs rest
+    × (walk taking (front_in v procs proc) lines ≡ walk taking (front_in v procs (with_body proc (proc.body ++ body))) rest)
 walk_body v [] procs proc fs lines within h =
-    (lines, h, ap (λ (b : List Statement). walk (front_in v procs (with_body proc b)) lines) (sym (append-nil proc.body)))
+    (lines, h, ap (λ (b : List Statement). walk taking (front_in v procs (with_body proc b)) lines) (sym (append-nil proc.body)))
 walk_body v (statement ∷ body) procs proc fs [] within h = absurd h
 walk_body v (statement ∷ body) procs proc fs (line ∷ lines) within h =
     let each : StatementIsWithin v statement = all_between (StatementIsWithin v) proc.body body statement within.each in
     let joined : (proc.body ++ statement ∷ []) ++ body ≡ proc.body ++ statement ∷ body = append_assoc proc.body (statement ∷ []) body in
-    let step = walk_step (front_in v procs proc) (front_in v procs (grown proc statement)) line lines
-    (right_taken (front_in v procs proc) line (Body statement) h.0 (each.0, within_deferreds statement.stmt each.1) each.2 (not_ex each.1)) in
+    let step = line_walk (front_in v procs proc) (Body statement) line lines h.0 (each.0, within_deferreds statement.stmt each.1) each.2 (not_ex each.1) in
     let later = walk_body v body procs (grown proc statement) fs lines (subst (KeepsLimits v proc) (sym joined) within) h.1 in
-    (later.0, later.1, step ∙ later.2 ∙ ap (λ (b : List Statement). walk (front_in v procs (with_body proc b)) later.0) joined)
+    (later.0, later.1, step ∙ later.2 ∙ ap (λ (b : List Statement). walk taking (front_in v procs (with_body proc b)) later.0) joined)
   where
     not_ex : IsWithin statement.stmt → Exceeds (front_in v procs proc) (Body statement) → ⊥
     not_ex is (inl e) = let short = within_longest statement.stmt is in omega (arith, e, short)
@@ -416,10 +263,9 @@ walk_body v (statement ∷ body) procs proc fs (line ∷ lines) within h =
 
 head_walk : (v : Version) (done : List Proc) (proc : Proc) (line : TextLine) (lines : List TextLine) → IsLine (Head proc.name proc.line proc.params) line
     → length proc.params ≤ 8 → length done + 1 ≤ 4096
-    → walk (front_of v done) (line ∷ lines) ≡ walk (front_in v done (bare proc)) lines
+    → walk taking (front_of v done) (line ∷ lines) ≡ walk taking (front_in v done (bare proc)) lines
 head_walk v done proc line lines is short room =
-    walk_step (front_of v done) (front_in v done (bare proc)) line lines
-    (right_taken (front_of v done) line (Head proc.name proc.line proc.params) is tt tt not_ex)
+    line_walk (front_of v done) (Head proc.name proc.line proc.params) line lines is tt tt not_ex
   where
     not_ex : Exceeds (front_of v done) (Head proc.name proc.line proc.params) → ⊥
     not_ex (inl e) = omega (arith, e, short)
@@ -428,17 +274,16 @@ head_walk v done proc line lines is short room =
 end_walk : (v : Version) (done procs : List Proc) (proc : Proc) (begun : Option Proc) (rest : List TextLine)
     → AllZip IsLine (End ∷ (forms procs ++ begun_forms begun)) rest
     → ((later : List TextLine) → AllZip IsLine (forms procs ++ begun_forms begun) later
-    → walk (front_of v (done ++ proc ∷ [])) later ≡ Ok (record { of_version = v; procs = (done ++ proc ∷ []) ++ procs; begun = begun }))
-    → walk (front_in v done proc) rest ≡ Ok (record { of_version = v; procs = (done ++ proc ∷ []) ++ procs; begun = begun })
+    → walk taking (front_of v (done ++ proc ∷ [])) later ≡ Ok (record { of_version = v; procs = (done ++ proc ∷ []) ++ procs; begun = begun }))
+    → walk taking (front_in v done proc) rest ≡ Ok (record { of_version = v; procs = (done ++ proc ∷ []) ++ procs; begun = begun })
 end_walk v done procs proc begun [] h later = absurd h
 end_walk v done procs proc begun (line ∷ rest) h later =
-    walk_step (front_in v done proc) (front_of v (done ++ proc ∷ [])) line rest
-    (right_taken (front_in v done proc) line End h.0 tt tt (λ e. e)) ∙ later rest h.1
+    line_walk (front_in v done proc) End line rest h.0 tt tt (λ e. e) ∙ later rest h.1
 
 walk_procs : (v : Version) (procs done : List Proc) (begun : Option Proc) (lines : List TextLine) → AllZip IsLine (forms procs ++ begun_forms begun) lines
     → length done + length (procs ++ begun_procs begun) ≤ 4096
     → AllByRecursion (ProcIsWithin v) (procs ++ begun_procs begun)
-    → walk (front_of v done) lines ≡ Ok (record { of_version = v; procs = done ++ procs; begun = begun })
+    → walk taking (front_of v done) lines ≡ Ok (record { of_version = v; procs = done ++ procs; begun = begun })
 walk_procs v [] done None [] h few each = ap (λ (ps : List Proc). Ok (front_of v ps)) (sym (append-nil done))
 walk_procs v [] done None (line ∷ lines) h few each = absurd h
 walk_procs v [] done (Some proc) [] h few each = absurd h
@@ -448,7 +293,7 @@ walk_procs v [] done (Some proc) (line ∷ lines) h few each =
     (subst (λ (fs : List Form). AllZip IsLine fs lines) (sym (append-nil (map Body proc.body))) h.1) in
     first ∙ body.2 ∙ ended body.0 body.1 ∙ ap (λ (ps : List Proc). Ok (front_in v ps proc)) (sym (append-nil done))
   where
-    ended : (rest : List TextLine) → AllZip IsLine [] rest → walk (front_in v done proc) rest ≡ Ok (front_in v done proc)
+    ended : (rest : List TextLine) → AllZip IsLine [] rest → walk taking (front_in v done proc) rest ≡ Ok (front_in v done proc)
     ended [] h = refl
     ended (x ∷ rest) h = absurd h
 walk_procs v (proc ∷ procs) done begun [] h few each = absurd h
@@ -466,12 +311,22 @@ walk_procs v (proc ∷ procs) done begun (line ∷ lines) h few each =
 -- the lines of a front lead to it
 all_walked : (v : Version) (procs : List Proc) (begun : Option Proc) (before : List TextLine)
     → IsFront (record { of_version = v; procs = procs; begun = begun }) before
-    → walk no_lines before ≡ Ok (record { of_version = v; procs = procs; begun = begun })
+    → walk taking no_lines before ≡ Ok (record { of_version = v; procs = procs; begun = begun })
 all_walked version.One procs begun before h = walk_procs version.One procs [] begun before h.lines (omega (arith, h.procs)) h.each
 all_walked version.Two procs begun [] h = absurd h.lines
 all_walked version.Two procs begun (line ∷ lines) h =
-    walk_step no_lines (front_of version.Two []) line lines (right_taken no_lines line Async h.lines.0 tt tt (λ e. e))
+    line_walk no_lines Async line lines h.lines.0 tt tt (λ e. e)
     ∙ walk_procs version.Two procs [] begun lines h.lines.1 (omega (arith, h.procs)) h.each
 
-pub front_walked : (front : Front) (before : List TextLine) → IsFront front before → walk no_lines before ≡ Ok front
-front_walked front before h = all_walked front.of_version front.procs front.begun before h
+leads : (front : Front) (before : List TextLine) → IsFront front before → walk taking no_lines before ≡ Ok front
+leads front before h = all_walked front.of_version front.procs front.begun before h
+
+pub is_read : IsRead rules taking front_with no_lines
+is_read =
+    record {
+      takes = takes;
+      opens = λ front. refl;
+      begins = record { lines = tt; procs = omega arith; each = tt };
+      goes_on = goes_on;
+      leads = leads;
+    }

@@ -5,5 +5,7 @@ pub mod Keywords
 pub mod Lines
 pub mod Names
 pub mod Rows
+pub mod Rules
 pub mod Table
+pub mod Takings
 pub mod Words

@@ -1,15 +1,13 @@
 -- How the reader takes the lines of a script, one after the other.
-use Rattle.std.specs.Prelude.{◌≡◌, ℕ, ◌+◌, ◌≤◌, Bool, true, false, ◌||◌, ◌==◌, nat_le, nat_lt, Option, Some, None, Result, Ok, Err, List, [], ◌∷◌, ◌++◌, length, codes, if◌then◌else◌}
+use Rattle.std.specs.Prelude.{◌≡◌, ℕ, ◌+◌, ◌≤◌, Bool, true, ◌||◌, ◌==◌, nat_le, nat_lt, Option, Some, None, is_some, Result, Ok, Err, List, [], ◌∷◌, ◌++◌, length, codes, if◌then◌else◌}
 use Rattle.std.specs.Result.{is_ok}
 use Rattle.std.specs.Str.{bytes_eq}
-use Rattle.ak_text.specs.Lines.{TextLine, words_of, has_bad_byte}
+use Rattle.ak_text.specs.Lines.{TextLine}
 use Rattle.ak_script.specs.declared.script.Prefix.{Prefix}
 use Rattle.ak_script.specs.declared.script.Prefix.TheVariants.{If, Unless}
 use Rattle.ak_script.specs.declared.script.Statement.{Statement}
 use Rattle.ak_script.specs.declared.script.Proc.{Proc}
 use Rattle.ak_script.specs.declared.statement.Stmt.{Stmt}
-use Rattle.ak_syntax.specs.declared.cursor.Cursor.{Cursor}
-use Rattle.ak_syntax.specs.declared.cursor.Until.TheVariants.{LineEnd}
 use Rattle.ak_syntax.specs.declared.line_form.Form.{Form}
 use Rattle.ak_syntax.specs.declared.line_form.Form.TheVariants.{Async, Head, Body, End}
 use Rattle.ak_syntax.specs.declared.refusal.Fault.{Fault}
@@ -25,7 +23,8 @@ use Rattle.ak_syntax.specs.Table.{longest_list, is_in}
 use Rattle.ak_syntax.specs.Grammar.{locals}
 use Rattle.ak_syntax.specs.Faults.{Front, kind_number}
 use Rattle.ak_syntax.specs.Rows.{statement_at}
-use Rattle.ak_syntax.specs.Words.{Bad, bad, ◌>>=◌, Part, both, mapped, end_at, word_at, exactly_at, name_at, atom_at, params_at, listed_at}
+use Rattle.ak_syntax.specs.Takings.{Taking, line_taken}
+use Rattle.ak_syntax.specs.Words.{bad, ◌>>=◌, Part, both, mapped, end_at, word_at, exactly_at, name_at, atom_at, params_at}
 
 -- ---- one line
 unfoldable pub head_at : ℕ → Part Form
@@ -109,21 +108,17 @@ form_added front End faulty = begun_end front.begun front
 unfoldable pub added : Front → Form → Bool → Result Front GrammarKind
 added front form faulty = form_added front form faulty
 
--- a part of a line that has no form is a bad line
-abbrev pub lined : {A : Type 0} → Result A Bad → (A → Result Front GrammarKind) → Result Front GrammarKind
-lined (Ok x) rest = rest x
-lined (Err b) rest = Err BadLine
-
-abbrev pub taken_from : Front → ℕ → Option (List ℕ) → Cursor → Result Front GrammarKind
-taken_from front number None c = Ok front
-taken_from front number (Some word) c = lined (form_from number word c) (λ f. added front f.0 f.1.faulty)
-
-abbrev pub taken_good : Front → ℕ → List (List ℕ) → Result Front GrammarKind
-taken_good front number words = lined (listed_at LineEnd (record { words = words; faulty = false })) (λ w. taken_from front number w.0 w.1)
+-- ---- all lines
+abbrev pub taking : Taking Front Form GrammarKind
+taking = record { form_from = form_from; added = added; is_open = λ front. is_some front.begun; bad_line = BadLine }
 
 unfoldable pub taken : Front → TextLine → Result Front GrammarKind
-taken front line = if has_bad_byte line.text then Err BadLine else taken_good front line.number (words_of line.text)
+taken front line = line_taken taking front line
 
+abbrev pub no_lines : Front
+no_lines = record { of_version = version.One; procs = []; begun = None }
+
+-- ---- answers
 -- a refusal for that reason, or want of memory
 abbrev pub Refuses : {Y : Type 0} → Fault → Result Y GrammarKind → Type 0
 Refuses (Grammar kind) found = found ≡ Err kind
@@ -143,34 +138,13 @@ abbrev pub HasRoom : Result ℕ Fault → Result Front GrammarKind → Option Pr
 HasRoom (Ok count) next begun stmt = IsRoom count next begun stmt
 HasRoom (Err e) next begun stmt = Refuses e next
 
--- ---- all lines
--- the place and the kind of a fault
-abbrev pub Placed : Type 0
-Placed = ℕ × GrammarKind
-
-abbrev pub then_lines : ℕ → Result Front GrammarKind → (Front → Result (List Proc) Placed) → Result (List Proc) Placed
-then_lines number (Ok front) rest = rest front
-then_lines number (Err kind) rest = Err (number, kind)
-
-abbrev pub closed_by : ℕ → List Proc → Option Proc → Result (List Proc) Placed
-closed_by last procs None = Ok procs
-closed_by last procs (Some proc) = Err (last + 1, BadLine)
-
--- the script, where the number of the last line was the given one
-unfoldable pub scanned : Front → ℕ → List TextLine → Result (List Proc) Placed
-scanned front last [] = closed_by last front.procs front.begun
-scanned front last (line ∷ lines) = then_lines line.number (taken front line) (λ next. scanned next line.number lines)
-
-abbrev pub no_lines : Front
-no_lines = record { of_version = version.One; procs = []; begun = None }
-
 -- the refusal of a line
 abbrev pub refused_of : ℕ → Fault → ParseRefused
 refused_of line (Grammar kind) = parse.At line (kind_number kind)
 refused_of line NoMemory = parse.NoMemory
 
 -- the answer is what was scanned, or want of memory
-abbrev pub Tells : Result (List Proc) ParseRefused → Result (List Proc) Placed → Type 0
-Tells (Ok script) found = found ≡ Ok script
+abbrev pub Tells : Result (List Proc) ParseRefused → Result Front (ℕ × GrammarKind) → Type 0
+Tells (Ok script) found = (v : Version) × (found ≡ Ok (record { of_version = v; procs = script; begun = None }))
 Tells (Err (parse.At line kind)) found = (k : GrammarKind) × (kind ≡ kind_number k) × (found ≡ Err (line, k))
 Tells (Err parse.NoMemory) found = Unit {0}

@@ -1,7 +1,7 @@
 //! Scripts: their syntax and its reader.
 #![tactic(auto)]
 
-mod cursor;
+pub mod cursor;
 mod form;
 mod keyword;
 pub mod laws;
@@ -14,4 +14,4 @@ pub mod refusal;
 mod rows;
 mod shape;
 pub mod version;
-mod word;
+pub mod word;

@@ -54,7 +54,7 @@ impl<'a> Cursor<'a> {
     }
 
     /// Names.
-    fn names(&mut self, alloc: Global, until: Until) -> Result<Names, Fault>
+    pub fn names(&mut self, alloc: Global, until: Until) -> Result<Names, Fault>
         ensures { Leaves (λ xs. xs) result self.new (names_at until self.old) }
     {
         let mut names = Items::make(alloc);

@@ -7,7 +7,8 @@ ghost use Rattle.ak_syntax.specs.declared.refusal.GrammarKind.{GrammarKind as Ki
 ghost use Rattle.ak_syntax.specs.Answers.{IsRight, IsScript, IsFault};
 ghost use Rattle.ak_syntax.specs.Faults.{GrammarFault};
 ghost use Rattle.ak_syntax.specs.Grammar.{Reads};
-ghost use Rattle.ak_syntax.specs.Lines.{Tells, scanned, no_lines, refused_of};
+ghost use Rattle.ak_syntax.specs.Lines.{Tells, taking, no_lines, refused_of};
+ghost use Rattle.ak_syntax.specs.Takings.{scanned};
 
 use crate::reader::Reader;
 use crate::refusal::{Fault, GrammarKind, ParseRefused};
@@ -35,7 +36,7 @@ pub fn parse(alloc: Global, bytes: &[u8]) -> Result<Script, ParseRefused>
 
 fn parse_lines(alloc: Global, bytes: &[u8]) -> Result<Script, ParseRefused>
     requires { length bytes.now ≤ 1048576 }
-    ensures { Tells result (scanned no_lines 0 (text_lines bytes.now)) }
+    ensures { Tells result (scanned taking no_lines 0 (text_lines bytes.now)) }
 {
     let mut reader = Reader::new(alloc);
     let mut last = 0;

@@ -7,16 +7,18 @@ use Rattle.ak_valid.specs.declared.refusal.FaultKind.{FaultKind}
 use Rattle.ak_script.specs.declared.script.Param.{Param}
 use Rattle.ak_script.specs.declared.statement.Atom.{Atom}
 use Rattle.ak_valid.specs.Faults.{kind_number, lesser, least, passed_faults, args_faults}
+use Rattle.ak_valid.specs.Kinds.{lesser_by, least_by}
 use Rattle.ak_valid.proofs.Naming.{take_next}
 
-abbrev least_kind : FaultKind → FaultKind → FaultKind
-least_kind a b = if nat_lt (kind_number b) (kind_number a) then b else a
+-- ---- of any kinds, by their numbers
+abbrev least_kind : {K : Type 0} → (K → ℕ) → K → K → K
+least_kind number a b = if nat_lt (number b) (number a) then b else a
 
-kind_assoc : (a b c : FaultKind) → least_kind (least_kind a b) c ≡ least_kind a (least_kind b c)
-kind_assoc a b c = of (nat_lt (kind_number b) (kind_number a)) (nat_lt (kind_number c) (kind_number b)) (nat_lt (kind_number c) (kind_number a)) refl refl refl
+kind_assoc : {K : Type 0} (number : K → ℕ) (a b c : K) → least_kind number (least_kind number a b) c ≡ least_kind number a (least_kind number b c)
+kind_assoc number a b c = of (nat_lt (number b) (number a)) (nat_lt (number c) (number b)) (nat_lt (number c) (number a)) refl refl refl
   where
-    of : (p q r : Bool) → nat_lt (kind_number b) (kind_number a) ≡ p → nat_lt (kind_number c) (kind_number b) ≡ q → nat_lt (kind_number c) (kind_number a) ≡ r
-        → least_kind (cond p b a) c ≡ least_kind a (cond q c b)
+    of : (p q r : Bool) → nat_lt (number b) (number a) ≡ p → nat_lt (number c) (number b) ≡ q → nat_lt (number c) (number a) ≡ r
+        → least_kind number (cond p b a) c ≡ least_kind number a (cond q c b)
     of true true true p q r = rw (q, r) refl
     of true true false p q r = absurd (grind (arith, nat_tests))
     of true false true p q r = rw (q, p) refl
@@ -26,27 +28,42 @@ kind_assoc a b c = of (nat_lt (kind_number b) (kind_number a)) (nat_lt (kind_num
     of false false true p q r = absurd (grind (arith, nat_tests))
     of false false false p q r = rw (r, p) refl
 
-lesser_assoc : (a b c : Option FaultKind) → lesser (lesser a b) c ≡ lesser a (lesser b c)
-lesser_assoc None b c = refl
-lesser_assoc (Some a) None c = refl
-lesser_assoc (Some a) (Some b) None = refl
-lesser_assoc (Some a) (Some b) (Some c) = ap Some (kind_assoc a b c)
+pub lesser_assoc : {K : Type 0} (number : K → ℕ) (a b c : Option K)
+    → lesser_by number (lesser_by number a b) c ≡ lesser_by number a (lesser_by number b c)
+lesser_assoc number None b c = refl
+lesser_assoc number (Some a) None c = refl
+lesser_assoc number (Some a) (Some b) None = refl
+lesser_assoc number (Some a) (Some b) (Some c) = ap Some (kind_assoc number a b c)
 
-pub lesser_none : (a : Option FaultKind) → lesser a None ≡ a
-lesser_none None = refl
-lesser_none (Some a) = refl
+pub lesser_none : {K : Type 0} (number : K → ℕ) (a : Option K) → lesser_by number a None ≡ a
+lesser_none number None = refl
+lesser_none number (Some a) = refl
 
+pub least_by_append : {K : Type 0} (number : K → ℕ) (xs ys : List K)
+    → least_by number (xs ++ ys) ≡ lesser_by number (least_by number xs) (least_by number ys)
+least_by_append number [] ys = refl
+least_by_append number (x ∷ xs) ys =
+    ap (lesser_by number (Some x)) (least_by_append number xs ys)
+    ∙ sym (lesser_assoc number (Some x) (least_by number xs) (least_by number ys))
+
+-- of the items so far and one more
+pub least_by_next : {A K : Type 0} (number : K → ℕ) (f : A → List K) (xs : List A) (i : ℕ) (x : A) (old new here : Option K) → i < length xs
+    → x ≡ get_or xs i x → old ≡ least_by number (flat_map f (take i xs)) → here ≡ least_by number (f x)
+    → new ≡ lesser_by number old here → new ≡ least_by number (flat_map f (take (i + 1) xs))
+least_by_next {A} {K} number f xs i x old new here below is so_far this joined =
+    joined ∙ rw (so_far, this, take_next xs i x below is, flat_map-append f (take i xs) (x ∷ []))
+    (sym (least_by_append number (flat_map f (take i xs)) (f x ++ [])
+    ∙ ap (λ (ks : List K). lesser_by number (least_by number (flat_map f (take i xs))) (least_by number ks)) (append-nil (f x))))
+
+-- ---- of the kinds of faults
 pub least_append : (xs ys : List FaultKind) → least (xs ++ ys) ≡ lesser (least xs) (least ys)
-least_append [] ys = refl
-least_append (x ∷ xs) ys = ap (lesser (Some x)) (least_append xs ys) ∙ sym (lesser_assoc (Some x) (least xs) (least ys))
+least_append xs ys = least_by_append kind_number xs ys
 
 -- of the items so far and one more
 pub least_next : {A : Type 0} (f : A → List FaultKind) (xs : List A) (i : ℕ) (x : A) (old new here : Option FaultKind) → i < length xs
     → x ≡ get_or xs i x → old ≡ least (flat_map f (take i xs)) → here ≡ least (f x)
     → new ≡ lesser old here → new ≡ least (flat_map f (take (i + 1) xs))
-least_next f xs i x old new here below is so_far this joined = joined ∙ rw (so_far, this, take_next xs i x below is, flat_map-append f (take i xs) (x ∷ []))
-    (sym (least_append (flat_map f (take i xs)) (f x ++ [])
-    ∙ ap (λ (ks : List FaultKind). lesser (least (flat_map f (take i xs))) (least ks)) (append-nil (f x))))
+least_next f xs i x old new here below is so_far this joined = least_by_next kind_number f xs i x old new here below is so_far this joined
 
 -- two lists, one after the other
 pub least_two : (xs ys : List FaultKind) (a b c : Option FaultKind) → a ≡ least xs → b ≡ least ys → c ≡ lesser a b → c ≡ least (xs ++ ys)
@@ -70,14 +87,14 @@ pub args_next : (known : List Param) (args args_left : List Atom) (params params
     → lesser new (least (args_faults known args_left params_left)) ≡ all
 args_next known args args_left params params_left a param all old new here args_are params_are so_far this joined =
     let opened : lesser old (least (passed_faults known a param ++ args_faults known args_left params_left)) ≡ all = rw (args_are, params_are) at so_far in
-    rw (joined, this) (lesser_assoc old _ _ ∙ ap (lesser old) (sym (least_append (passed_faults known a param) _)) ∙ opened)
+    rw (joined, this) (lesser_assoc kind_number old _ _ ∙ ap (lesser old) (sym (least_append (passed_faults known a param) _)) ∙ opened)
 
 pub args_end : (known : List Param) (args : List Atom) (params : List Param) (all old : Option FaultKind) → (args ≡ []) ⊎ (params ≡ [])
     → lesser old (least (args_faults known args params)) ≡ all → old ≡ all
-args_end known args params all old (inl none) so_far = sym (lesser_none old) ∙ (rw none at so_far)
+args_end known args params all old (inl none) so_far = sym (lesser_none kind_number old) ∙ (rw none at so_far)
 args_end known args params all old (inr none) so_far =
     let both : args_faults known args params ≡ [] = rw none (nothing args) in
-    sym (lesser_none old) ∙ (rw both at so_far)
+    sym (lesser_none kind_number old) ∙ (rw both at so_far)
   where
     nothing : (rest : List Atom) → args_faults known rest [] ≡ []
     nothing [] = refl

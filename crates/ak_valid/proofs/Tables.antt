@@ -16,7 +16,8 @@ use Rattle.ak_script.specs.Statements.{bound}
 use Rattle.ak_valid.specs.Numbered.{at, param_names, proc_names}
 use Rattle.ak_valid.specs.Valid.{local_named, proc_named}
 use Rattle.ak_valid.proofs.Mapping.{map_twice}
-use Rattle.ak_valid.proofs.Naming.{any_mapped, place_mapped}
+use Rattle.ak_syntax.proofs.Lists.{any_mapped}
+use Rattle.ak_valid.proofs.Naming.{place_mapped}
 
 abbrev pub Key : Type 0
 Key = Bor (List ℕ)
@@ -30,12 +31,12 @@ same_key a b = bytes_eq a.now b.now
 abbrev pub local_of : Key × Kind → Param
 local_of entry = bound entry.0.now entry.1
 
-not_some : {A : Type 0} (o : Option A) → is_some o ≡ false → o ≡ None
+pub not_some : {A : Type 0} (o : Option A) → is_some o ≡ false → o ≡ None
 not_some None h = refl
 not_some (Some x) h = cc
 
 -- a place that may not be there
-place_le : {A : Type 0} (p : A → Bool) (xs : List A) → position_or_len p xs ≤ length xs
+pub place_le : {A : Type 0} (p : A → Bool) (xs : List A) → position_or_len p xs ≤ length xs
 place_le p [] = omega arith
 place_le p (x ∷ xs) = of (p x) (place_le p xs)
   where
@@ -43,7 +44,7 @@ place_le p (x ∷ xs) = of (p x) (place_le p xs)
     of true h = omega arith
     of false h = omega arith
 
-place_or : {A : Type 0} (p : A → Bool) (xs : List A) → unwrap_or (position p xs) (length xs) ≡ position_or_len p xs
+pub place_or : {A : Type 0} (p : A → Bool) (xs : List A) → unwrap_or (position p xs) (length xs) ≡ position_or_len p xs
 place_or p xs = of (ltb (position_or_len p xs) (length xs)) refl
   where
     of : (b : Bool) → ltb (position_or_len p xs) (length xs) ≡ b → unwrap_or (cond b (Some (position_or_len p xs)) None) (length xs) ≡ position_or_len p xs

@@ -1,6 +1,6 @@
 -- The faults of a script: its lines in their order, each with the kinds of its faults. A fault stands where a name is
 -- looked up in the lines before and isn't there, is there already, or is of another kind than its place wants.
-use Rattle.std.specs.Prelude.{◌≡◌, ℕ, ◌+◌, ◌==◌, nat_lt, Bool, true, false, Option, Some, None, List, [], ◌∷◌, ◌++◌, length, take, drop, codes, if◌then◌else◌}
+use Rattle.std.specs.Prelude.{◌≡◌, ℕ, ◌+◌, ◌==◌, Bool, true, false, Option, Some, None, List, [], ◌∷◌, ◌++◌, length, take, drop, codes, if◌then◌else◌}
 use Rattle.std.specs.List.{flat_map, list_any}
 use Rattle.std.specs.Option.{option_map_or}
 use Rattle.std.specs.Str.{bytes_eq}
@@ -13,6 +13,7 @@ use Rattle.ak_script.specs.declared.statement.Atom.{Atom}
 use Rattle.ak_script.specs.declared.statement.Atom.TheVariants.{Literal, Local}
 use Rattle.ak_script.specs.Statements.{binds}
 use Rattle.ak_valid.specs.declared.refusal.FaultKind.{FaultKind}
+use Rattle.ak_valid.specs.Kinds.{lesser_by, least_by}
 use Rattle.ak_valid.specs.declared.refusal.FaultKind.TheVariants.{NoMain, TwiceNamed, UnknownName, WrongKind, WrongCount}
 use Rattle.ak_valid.specs.Numbered.{param_names}
 use Rattle.ak_valid.specs.Uses.{Use, Callee, local, uses, callees}
@@ -139,14 +140,11 @@ kind_number WrongCount = 9
 
 -- the lesser of two kinds that may be there
 abbrev pub lesser : Option FaultKind → Option FaultKind → Option FaultKind
-lesser None b = b
-lesser (Some a) None = Some a
-lesser (Some a) (Some b) = Some (if nat_lt (kind_number b) (kind_number a) then b else a)
+lesser a b = lesser_by kind_number a b
 
 -- the least of some kinds
 abbrev pub least : List FaultKind → Option FaultKind
-least [] = None
-least (kind ∷ kinds) = lesser (Some kind) (least kinds)
+least kinds = least_by kind_number kinds
 
 -- the first line with a fault, and the number of its least kind
 abbrev pub first_fault : List Line → Option (ℕ × ℕ)

@@ -2,9 +2,10 @@ use Rattle.std.proofs.Common.{◌≡◌, ◌≤◌, Err, refl, sym, ap, subst, �
 use Rattle.ak_text.specs.Lines.{TextLine, text_lines}
 use Rattle.ak_syntax.specs.declared.refusal.ParseRefused.{ParseRefused}
 use Rattle.ak_syntax.specs.declared.refusal.GrammarKind.TheVariants.{BadLine}
-use Rattle.ak_syntax.specs.Lines.{scanned, no_lines, refused_of, Tells}
-use Rattle.ak_syntax.proofs.Scanned.{AreNumbered, numbered_first, numbered_next, refused_tells, next_scanned, closed_tells, open_tells}
-use Rattle.ak_syntax.proofs.Parsed.{found_formed}
+use Rattle.ak_syntax.specs.Lines.{no_lines, refused_of, taking, Tells}
+use Rattle.ak_syntax.specs.Takings.{scanned}
+use Rattle.ak_syntax.proofs.Scanned.{AreNumbered, numbered_first, numbered_next}
+use Rattle.ak_syntax.proofs.Parsed.{closed_found, found_formed, next_found, open_found, refused_tells}
 use Rattle.ak_syntax.proofs.parse.parse_lines.Goals as goal
 
 pub loop-line-init : goal.loop-line-init
@@ -20,14 +21,14 @@ pub returns-in-Err : goal.returns-in-Err
 returns-in-Err c =
     let refusal : c.refused.result ≡ refused_of c.in-Some.line.number c.in-Err.fault =
     c.refused.ensures ∙ ap (λ (n : ℕ). refused_of n c.in-Err.fault) c.number-last.ensures in
-    subst (λ (r : ParseRefused). Tells (Err r) (scanned no_lines 0 (text_lines c.args.bytes.now))) (sym refusal)
+    subst (λ (r : ParseRefused). Tells (Err r) (scanned taking no_lines 0 (text_lines c.args.bytes.now))) (sym refusal)
     (refused_tells c.loop-line.reader c.loop-line.last c.loop-line.line-iterator c.next.new.self c.in-Some.line c.in-Err.fault _
     c.loop-line.invariant.same c.in-Some.ensures.steps c.in-Err.ensures)
 
 pub loop-line-preserved : goal.loop-line-preserved
 loop-line-preserved c = record {
   same = rw (c.number-last.ensures)
-      (next_scanned c.loop-line.reader c.take.new.self c.loop-line.last c.loop-line.line-iterator c.next.new.self c.in-Some.line _
+      (next_found c.loop-line.reader c.take.new.self c.loop-line.last c.loop-line.line-iterator c.next.new.self c.in-Some.line _
       c.loop-line.invariant.same c.in-Some.ensures.steps c.in-Ok.ensures);
   numbered = rw (c.number-last.ensures)
       ((numbered_next c.loop-line.last c.loop-line.line-iterator c.next.new.self c.in-Some.line c.args.bytes.now
@@ -42,18 +43,20 @@ returns-then-is_open c =
     rw (c.at.ensures) (
       BadLine,
       refl,
-      open_tells c.loop-line.reader c.loop-line.last c.loop-line.line-iterator _ c.loop-line.invariant.same c.in-None.ensures.steps.0
+      open_found c.loop-line.reader c.loop-line.last c.loop-line.line-iterator _ c.loop-line.invariant.same c.in-None.ensures.steps.0
           (sym c.if-is_open.ensures),
     )
 
 pub into_script-requires : goal.into_script-requires
 into_script-requires c =
     let small : length c.args.bytes.now ≤ 1048576 = omega arith in
-    found_formed c.args.bytes.now c.loop-line.reader.procs small
-    (closed_tells c.loop-line.reader c.loop-line.last c.loop-line.line-iterator
-    (scanned no_lines 0 (text_lines c.args.bytes.now)) c.loop-line.invariant.same c.in-None.ensures.steps.0 (sym c.if-is_open.ensures))
+    found_formed c.args.bytes.now c.loop-line.reader.of_version c.loop-line.reader.procs small
+    (closed_found c.loop-line.reader c.loop-line.last c.loop-line.line-iterator
+    (scanned taking no_lines 0 (text_lines c.args.bytes.now)) c.loop-line.invariant.same c.in-None.ensures.steps.0 (sym c.if-is_open.ensures))
 
 pub returns : goal.returns
-returns c = rw (c.into_script.ensures)
-    (closed_tells c.loop-line.reader c.loop-line.last c.loop-line.line-iterator _ c.loop-line.invariant.same c.in-None.ensures.steps.0
-    (sym c.if-is_open.ensures))
+returns c = rw (c.into_script.ensures) (
+  c.loop-line.reader.of_version,
+  closed_found c.loop-line.reader c.loop-line.last c.loop-line.line-iterator _ c.loop-line.invariant.same c.in-None.ensures.steps.0
+      (sym c.if-is_open.ensures),
+)

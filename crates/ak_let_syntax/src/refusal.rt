@@ -1,7 +1,10 @@
 //! Why a text is no source of the let dialect.
 
 ghost use Rattle.std.specs.Prelude.{◌≡◌};
-ghost use Rattle.ak_let_reader.specs.Faults.{kind_number};
+ghost use Rattle.ak_let_syntax.specs.Faults.{kind_number};
+
+use ak_base::list::NoMemory as AllocError;
+use ak_syntax::refusal::Fault;
 
 /// What is wrong with a text that is no source.
 #[derive(Clone, Copy, PartialEq, Eq, Debug)]
@@ -55,5 +58,45 @@ impl LetRefused {
             line,
             kind: fault.number(),
         }
+    }
+}
+
+impl From<AllocError> for LetRefused {
+    ghost use Rattle.ak_let_syntax.specs.declared.refusal.LetRefused.TheVariants.{NoMemory};
+
+    ghost from_gives = { λ _ e. e ≡ NoMemory };
+
+    fn from(_error: AllocError) -> LetRefused {
+        LetRefused::NoMemory
+    }
+}
+
+/// Why a line is not taken: what is wrong with it, or want of memory.
+#[derive(Debug, Drop)]
+pub enum LineRefused {
+    Line(LetFault),
+    NoMemory,
+}
+
+impl From<Fault> for LineRefused {
+    ghost use Rattle.ak_let_syntax.specs.Lines.{line_refused};
+
+    ghost from_gives = { λ fault e. e ≡ line_refused fault };
+
+    fn from(fault: Fault) -> LineRefused {
+        match fault {
+            Fault::Grammar(_) => LineRefused::Line(LetFault::BadLine),
+            Fault::NoMemory => LineRefused::NoMemory,
+        }
+    }
+}
+
+impl From<AllocError> for LineRefused {
+    ghost use Rattle.ak_let_syntax.specs.declared.refusal.LineRefused.TheVariants.{NoMemory};
+
+    ghost from_gives = { λ _ e. e ≡ NoMemory };
+
+    fn from(_error: AllocError) -> LineRefused {
+        LineRefused::NoMemory
     }
 }

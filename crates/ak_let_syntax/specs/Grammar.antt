@@ -1,38 +1,17 @@
 -- The grammar of the let dialect: a text is its lines, a line its words, and the words are those of a form. Own.
-use Rattle.std.specs.Prelude.{◌≡◌, ℕ, ◌≤◌, Bool, true, false, not, ◌&&◌, Option, Some, None, List, [], ◌∷◌, ◌++◌, map, filter, length, codes, FitsSigned}
-use Rattle.std.specs.Int.{w64}
-use Rattle.std.specs.List.{AllZip, AllByRecursion, flat_map}
+use Rattle.std.specs.Prelude.{◌≡◌, ℕ, ◌≤◌, Bool, true, false, Option, Some, None, List, [], ◌∷◌, ◌++◌, map, filter, length, codes}
+use Rattle.std.specs.List.{AllZip, AllByRecursion, flat_map, list_any}
 use Rattle.std.specs.Str.{bytes_eq}
 use Rattle.ak_text.specs.Lines.{TextLine, text_lines, words_of, has_bad_byte, counts}
-use Rattle.ak_text.specs.Numbers.{Writes}
 use Rattle.ak_script.specs.declared.statement.Atom.{Atom}
-use Rattle.ak_script.specs.declared.statement.Atom.TheVariants.{Literal, Local}
-use Rattle.ak_syntax.specs.Names.{is_name, operator_word, work_word}
-use Rattle.ak_let_reader.specs.declared.named.NamedStmt.{NamedStmt}
-use Rattle.ak_let_reader.specs.declared.named.NamedStmt.TheVariants.{Let, Compute, Print, Raise, Return, Await, AwaitWork, Try}
-use Rattle.ak_let_reader.specs.declared.named.NamedFun.{NamedFun}
-use Rattle.ak_let_reader.specs.declared.named.Form.{Form}
-use Rattle.ak_let_reader.specs.declared.named.Form.TheVariants.{Head, Body, End}
-
--- a name of scripts that isn't `work`
-abbrev pub is_let_name : List ℕ → Bool
-is_let_name word = is_name word && not (bytes_eq word (codes "work"))
-
--- what one word of a line stands for
-pub data Place : Type 0 where
-  -- these very bytes
-  Exactly : List ℕ → Place
-  -- a name
-  Named : List ℕ → Place
-  -- a number, or the name of a local
-  Valued : Atom → Place
-
--- the word stands for that
-abbrev pub Stands : Place → List ℕ → Type 0
-Stands (Exactly bytes) word = word ≡ bytes
-Stands (Named name) word = (word ≡ name) × (is_let_name name ≡ true)
-Stands (Valued (Literal number)) word = FitsSigned w64 number × Writes word number
-Stands (Valued (Local name)) word = (word ≡ name) × (is_let_name name ≡ true)
+use Rattle.ak_script.specs.declared.statement.Atom.TheVariants.{Local}
+use Rattle.ak_syntax.specs.Names.{operator_word, work_word}
+use Rattle.ak_syntax.specs.Table.{Place, Exactly, Named, Valued, Stands}
+use Rattle.ak_let_syntax.specs.declared.named.NamedStmt.{NamedStmt}
+use Rattle.ak_let_syntax.specs.declared.named.NamedStmt.TheVariants.{Let, Compute, Print, Raise, Return, Await, AwaitWork, Try}
+use Rattle.ak_let_syntax.specs.declared.named.NamedFun.{NamedFun}
+use Rattle.ak_let_syntax.specs.declared.named.Form.{Form}
+use Rattle.ak_let_syntax.specs.declared.named.Form.TheVariants.{Head, Body, End}
 
 -- the words in front of a line that acts under a condition
 abbrev pub when_places : Option Atom → List Place
@@ -68,11 +47,28 @@ HasNumber (Head name number params) at = number ≡ at
 HasNumber (Body line) at = line.number ≡ at
 HasNumber End at = Unit {0}
 
--- the line has the form
+-- ---- names
+-- the word that is no name: it stands in front of a work
+abbrev pub is_work : List ℕ → Bool
+is_work name = bytes_eq name (codes "work")
+
+-- a name that is `work`
+abbrev pub takes_work : Place → Bool
+takes_work (Named name) = is_work name
+takes_work (Valued (Local name)) = is_work name
+takes_work _ = false
+
+-- some name of the form is `work`
+abbrev pub names_work : Form → Bool
+names_work form = list_any takes_work (places form)
+
+-- ---- lines
+-- the line has the form, and no name of it is `work`
 pub record IsLine (form : Form) (line : TextLine) : Type 0 where
   pub good : has_bad_byte line.text ≡ false
   pub number : HasNumber form line.number
   pub words : AllZip Stands (places form) (words_of line.text)
+  pub names : names_work form ≡ false
 
 -- the lines of functions: those of each are its first, its own and `end`
 abbrev pub forms : List NamedFun → List Form

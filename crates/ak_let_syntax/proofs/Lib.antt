@@ -1,0 +1,4 @@
+pub mod Fronts
+pub mod LineForms
+pub mod Parsed
+pub mod Shapes
