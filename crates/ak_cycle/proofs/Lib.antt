@@ -1,2 +1,5 @@
-mod Turns
-mod Under
+pub mod Turns
+pub mod Under
+mod Jobs
+mod Rounds
+mod Own

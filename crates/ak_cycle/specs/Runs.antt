@@ -1,10 +1,7 @@
 -- What a run over a port has to do with the machine.
-use Rattle.std.specs.Prelude.{ℕ, ◌+◌, List, [], ◌∷◌, ◌++◌, ◌≡◌, length, Ok, Err}
-use Rattle.std.specs.declared.result.Result.{Result}
+use Rattle.std.specs.Prelude.{ℕ, ◌+◌, List, [], ◌∷◌, ◌++◌, ◌≡◌, ◌⊎◌, length}
 use Rattle.ak_labor.specs.declared.ask.Ask.{Ask}
 use Rattle.ak_labor.specs.declared.ask.Ask.TheVariants as ask
-use Rattle.ak_labor.specs.declared.port.PortError.{PortError}
-use Rattle.ak_labor.specs.declared.port.PortError.TheVariants.{Fault, NoMemory}
 use Rattle.ak_labor.specs.Calls.{Reply, IsOpen}
 use Rattle.ak_trace.specs.declared.entry.Entry.{Entry}
 use Rattle.ak_trace.specs.declared.entry.Entry.TheVariants as entry
@@ -28,6 +25,10 @@ pub record WantsLast (run : Run) (asked : List Ask) (replies : List Reply) (wait
   pub asks_are : run.asks ≡ asked
   pub waits_are : run.waits ≡ waits
 
+-- the waits of the machine are those of the port, or one more, for which there was no memory
+abbrev pub WaitsAre : List ℕ → List ℕ → ℕ → Type 0
+WaitsAre waits of_port asked = (waits ≡ of_port) ⊎ (waits ≡ of_port ++ asked ∷ [])
+
 -- the machine's run wants the reply to a call that comes next and that the port was not asked; each call before it has its
 -- reply, and none was the close
 pub record WantsNext (run : Run) (asked : List Ask) (replies : List Reply) (waits : List ℕ) : Type 0 where
@@ -35,13 +36,7 @@ pub record WantsNext (run : Run) (asked : List Ask) (replies : List Reply) (wait
   pub wants : run.outcome ≡ Wants next
   pub opened : IsOpen asked replies
   pub asks_are : run.asks ≡ asked ++ next ∷ []
-  pub waits_are : run.waits ≡ waits
-
--- the answer is want of memory
-abbrev pub IsNoMemory : {T F : Type 0} → Result T (PortError F) → Type 0
-IsNoMemory (Ok v) = ⊥
-IsNoMemory (Err (Fault f)) = ⊥
-IsNoMemory (Err NoMemory) = Unit {0}
+  pub waits_are : WaitsAre run.waits waits (length asked)
 
 -- the last call was the close
 abbrev pub EndsClosed : List Ask → Type 0

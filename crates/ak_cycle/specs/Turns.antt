@@ -1,48 +1,44 @@
--- One turn of a run: what follows the reply to a drain, up to the next drain or the close.
-use Rattle.std.specs.Prelude.{ℕ, ◌+◌, ◌-◌, ◌*◌, ◌<◌, ◌≡◌, List, [], ◌∷◌, ◌++◌, Bool, true, false, None, if◌then◌else◌}
-use Rattle.std.specs.List.{filter_map}
+-- A run under way over a port, step by step.
+use Rattle.std.specs.Prelude.{ℕ, ◌+◌, ◌-◌, ◌*◌, ◌<◌, ◌≡◌, ◌⊎◌, List, [], ◌∷◌, ◌++◌, length, drop, Bool, true, false, not, Option, Some, None, if◌then◌else◌}
+use Rattle.std.specs.List.{list_any}
 use Rattle.ak_labor.specs.declared.ask.Ask.{Ask}
 use Rattle.ak_labor.specs.declared.ask.Ask.TheVariants as ask
 use Rattle.ak_labor.specs.Calls.{Reply, IsOpen}
-use Rattle.ak_labor.specs.Waits.{handed_by, answered_by, left_after}
+use Rattle.ak_labor.specs.Waits.{outstanding, came, left_after, is_drain, is_drained, last_wait, HasWaited}
 use Rattle.ak_rings.specs.Queues.{pick_of, has_pick}
 use Rattle.ak_labor.specs.declared.config.Config.{Config}
-use Rattle.ak_machine.specs.Cycle.{cycle_begun, has_more}
-use Rattle.ak_machine.specs.Run.{Machine, AtDrain, AtClose, Wants, ran_to, picked, machine_after}
+use Rattle.ak_labor.specs.declared.work.Outcome.{Outcome}
+use Rattle.ak_machine.specs.declared.flow.Flow.{Flow}
+use Rattle.ak_machine.specs.declared.flow.Flow.TheVariants as flow
+use Rattle.ak_machine.specs.State.{State}
+use Rattle.ak_machine.specs.Errors.{After}
+use Rattle.ak_machine.specs.Cycle.{cycle_begun, has_more, arrive_all}
+use Rattle.ak_state.specs.Errors.{after_is}
+use Rattle.ak_machine.specs.Run.{Machine, AtDrain, AtClose, picked, machine_after}
 use Rattle.ak_machine.specs.Status.{Stat, Well, ByError, AtJobLimit, Stuck, Unfinished, status_of}
 use Rattle.ak_program.specs.Programs.{NumProgram}
+use Rattle.ak_ledger.specs.Outside.{IsInStep}
 use Rattle.ak_exec.specs.Worlds.{Worldly, first_state}
+use Rattle.ak_cycle.specs.Runs.{EndsIdle}
 
 -- a world whose first cycle has begun
 abbrev pub first_world : NumProgram → Config → Worldly
 first_world program config =
     record { program = program; config = config; plain = cycle_begun (first_state program config); picked = None; ran = 0 }
 
--- the machine that waits for the reply to a drain, where these were asked before
-abbrev pub at_drain : Worldly → List Ask → Machine
-at_drain w asked = record { state = w.plain; ran = w.ran; asks = asked ++ ask.Drain ∷ []; waits = []; place = AtDrain }
+-- the machine that waits for the reply to a drain, where these were asked before, with these waits
+abbrev pub at_drain : Worldly → List Ask → List ℕ → Machine
+at_drain w asked waits = record { state = w.plain; ran = w.ran; asks = asked ++ ask.Drain ∷ []; waits = waits; place = AtDrain }
 
 -- the machine that waits for the reply to the close
-abbrev pub at_close : Worldly → List Ask → Machine
-at_close w asked = record { state = w.plain; ran = w.ran; asks = asked ++ ask.Close ∷ []; waits = []; place = AtClose }
+abbrev pub at_close : Worldly → List Ask → List ℕ → Machine
+at_close w asked waits = record { state = w.plain; ran = w.ran; asks = asked ++ ask.Close ∷ []; waits = waits; place = AtClose }
 
--- the machine that drains again where the run goes on, and else closes
-abbrev pub goes_to : Bool → Worldly → List Ask → Machine
-goes_to true w asked = at_drain w asked
-goes_to false w asked = at_close w asked
-
--- the machine after a drain that brought nothing
-abbrev pub drained_with : Worldly → List Ask → Machine
-drained_with w asked =
+-- the machine once all of a drain has arrived
+abbrev pub served_with : Worldly → List Ask → List ℕ → Machine
+served_with w asked waits =
     picked w.program w.config (pick_of w.plain.queues) w.plain
-    (record { state = w.plain; ran = w.ran; asks = asked; waits = []; place = AtDrain })
-
--- the machine made one call more than these and wants its reply, and waited for nothing
-pub record IsAsking (m : Machine) (asked : List Ask) : Type 0 where
-  pub next : Ask
-  pub wants : ran_to m.place ≡ Wants next
-  pub asks_are : m.asks ≡ asked ++ next ∷ []
-  pub no_wait : m.waits ≡ []
+    (record { state = w.plain; ran = w.ran; asks = asked; waits = waits; place = AtDrain })
 
 -- the trace has its end
 abbrev pub IsFinished : Stat → Type 0
@@ -52,36 +48,79 @@ IsFinished AtJobLimit = Unit {0}
 IsFinished Stuck = Unit {0}
 IsFinished Unfinished = ⊥
 
--- how many turns may follow: three for each job that is left; and where no job can be picked now, two more where something is left
--- to do, and else one
-abbrev pub turns_left : Worldly → ℕ
-turns_left w = 3 * (w.config.jobs - w.ran) + (if has_pick w.plain.queues then 0 else if has_more w.plain then 2 else 1)
-
--- the same where the run goes on, and else none
-abbrev pub left_where : Bool → Worldly → ℕ
-left_where on w = if on then 1 + turns_left w else 0
-
--- what follows a drain that brought nothing takes one world to another: the machine goes to the next drain where the run goes
--- on, with fewer turns left, and else to the close, with its end written
-pub record IsTurned (old : Worldly) (on : Bool) (new : Worldly) : Type 0 where
-  pub step : (asked : List Ask) → drained_with old asked ≡ goes_to on new asked
-  pub finished : on ≡ false → IsFinished (status_of new.plain.trace)
-  pub left : on ≡ true → turns_left new < turns_left old
-  pub program_is : new.program ≡ old.program
-  pub config_is : new.config ≡ old.config
-  pub free : new.picked ≡ None
-
--- a run under way over a port: the machine on the port's replies drains next, or closes next where the run doesn't go on, and the
--- port was asked and replied what the machine asks; no work was handed in, no asker is left, and no answer was told
-pub record IsAt (on : Bool) (program : NumProgram) (config : Config) (w : Worldly) (asked : List Ask) (replies : List Reply) (waits : List ℕ) : Type 0 where
+-- a run under way: the machine on the port's replies is this one; the calls of the port may go on; and nothing came from outside,
+-- as there are no askers
+pub record IsUnderWay (program : NumProgram) (config : Config) (w : Worldly) (asked : List Ask) (replies : List Reply) (m : Machine) : Type 0 where
   pub free : w.picked ≡ None
   pub program_is : w.program ≡ program
   pub config_is : w.config ≡ config
-  pub machine : machine_after program config replies ≡ goes_to on w asked
-  pub finished : on ≡ false → IsFinished (status_of w.plain.trace)
+  pub machine : machine_after program config replies ≡ m
   pub opened : IsOpen asked replies
-  pub no_work : filter_map handed_by asked ≡ []
-  pub no_answer : filter_map answered_by asked ≡ []
   pub no_askers : config.askers ≡ 0
+  pub none_came : came replies ≡ []
   pub none_left : left_after config.askers replies ≡ 0
-  pub no_wait : waits ≡ []
+
+-- the machine drains next, and the state is in step with the calls
+pub record IsAt (program : NumProgram) (config : Config) (w : Worldly) (asked : List Ask) (replies : List Reply) (waits : List ℕ) : Type 0 where
+  pub run : IsUnderWay program config w asked replies (at_drain w asked waits)
+  pub in_step : IsInStep config.askers asked replies w.plain
+
+-- all of a drain has arrived, and a job is picked next
+pub record IsServed (program : NumProgram) (config : Config) (w : Worldly) (asked : List Ask) (replies : List Reply) (waits : List ℕ) : Type 0 where
+  pub run : IsUnderWay program config w asked replies (served_with w asked waits)
+  pub in_step : IsInStep config.askers asked replies w.plain
+  pub drained : list_any is_drained replies ≡ true
+
+-- the run has its end, and is to be closed; where it ends idle, a reply has brought each work that was handed in
+pub record IsOver (program : NumProgram) (config : Config) (w : Worldly) (asked : List Ask) (replies : List Reply) (waits : List ℕ) : Type 0 where
+  pub run : IsUnderWay program config w asked replies (at_close w asked waits)
+  pub finished : IsFinished (status_of w.plain.trace)
+  pub idle : EndsIdle w.plain.trace → outstanding asked replies ≡ []
+
+-- the next of these, by whether the run goes on
+abbrev pub GoesOn : Bool → NumProgram → Config → Worldly → List Ask → List Reply → List ℕ → Type 0
+GoesOn true program config w asked replies waits = IsAt program config w asked replies waits
+GoesOn false program config w asked replies waits = IsOver program config w asked replies waits
+
+abbrev pub IsBrought : Bool → NumProgram → Config → Worldly → List Ask → List Reply → List ℕ → Type 0
+IsBrought true program config w asked replies waits = IsServed program config w asked replies waits
+IsBrought false program config w asked replies waits = IsOver program config w asked replies waits
+
+-- ---- how long it may go on
+-- the jobs that may still run
+abbrev pub jobs_left : Worldly → ℕ
+jobs_left w = w.config.jobs - w.ran
+
+abbrev pub left_where : Bool → Worldly → ℕ
+left_where on w = if on then 1 + jobs_left w else 0
+
+-- whether the scheduler has waited and has not drained since
+abbrev pub undrained_from : List Ask → Option ℕ → Bool
+undrained_from asked None = false
+undrained_from asked (Some n) = not (list_any is_drain (drop n asked))
+
+abbrev pub has_waited : List Ask → List ℕ → Bool
+has_waited asked waits = undrained_from asked (last_wait waits)
+
+-- how many drains may follow without a job, where nothing comes with them
+abbrev pub drains_left : Worldly → Bool → ℕ
+drains_left w waited =
+    let last : ℕ = if waited then 1 else 2
+    in let more : ℕ = if has_more w.plain then 3 else last
+    in if has_pick w.plain.queues then 0 else more
+
+-- the same where works may come, and with so many turns of the port
+abbrev pub rounds_left : Worldly → Bool → ℕ → ℕ
+rounds_left w waited turns = 4 * (length w.plain.works + turns) + drains_left w waited
+
+-- a drain brought a work, or nothing; in the second case a port that was waited for had a turn less
+abbrev pub HasGained : Worldly → Worldly → List Ask → List ℕ → ℕ → ℕ → Type 0
+HasGained old new asked waits turns turns' =
+    (length new.plain.works < length old.plain.works)
+    ⊎ ((new ≡ old) × (HasWaited asked waits → turns' < turns))
+
+-- the rest of a drain, behind a work with this flow
+abbrev pub arrived_to : Flow → List (ℕ × Outcome) → State → Option After
+arrived_to flow.On pairs s = arrive_all pairs s
+arrived_to flow.Stopped pairs s = Some (after_is flow.Stopped s)
+arrived_to (flow.Unhandled num) pairs s = Some (after_is (flow.Unhandled num) s)

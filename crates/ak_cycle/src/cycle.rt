@@ -1,33 +1,29 @@
 //! Whole runs.
 
 ghost use Rattle.std.specs.Prelude.{◌≡◌, ◌≤◌, ◌<◌, [], true, IfOk, OnOk};
-ghost use Rattle.std.specs.List.{filter_map};
-ghost use Rattle.ak_labor.specs.declared.ask.Ask.TheVariants as ask;
-ghost use Rattle.ak_labor.specs.Calls.{IsAsked, IsOpen, IsFault, Drained};
-ghost use Rattle.ak_labor.specs.Arrived.{nothing_arrived};
-ghost use Rattle.ak_labor.specs.Waits.{handed_by, answered_by, outstanding, left_after};
+ghost use Rattle.ak_labor.specs.Calls.{IsFault};
+ghost use Rattle.ak_labor.specs.Waits.{outstanding};
 ghost use Rattle.ak_machine.specs.Run.{run_of};
 ghost use Rattle.ak_machine.specs.Status.{status_of};
-ghost use Rattle.ak_program.specs.Programs.{NumProgram};
-ghost use Rattle.ak_exec.specs.Built.{AreBuilt};
+ghost use Rattle.ak_exec.specs.Asks.{IsNoMemory};
 ghost use Rattle.ak_laws.specs.Laws.{ObeysLaws};
-ghost use Rattle.ak_cycle.specs.Runs.{HasEndedWith, WantsLast, WantsNext, IsNoMemory, EndsIdle, EndsClosed};
-ghost use Rattle.ak_cycle.specs.Turns.{IsAt, IsFinished, turns_left, first_world};
+ghost use Rattle.ak_cycle.specs.Runs.{HasEndedWith, WantsLast, WantsNext, EndsIdle, EndsClosed};
+ghost use Rattle.ak_cycle.specs.Turns.{IsAt, GoesOn, IsFinished, jobs_left, first_world};
 
-use crate::turn::advance;
+use crate::round::reach_pick;
+use crate::turn::run_next;
 use ak_base::list::NoMemory;
-use ak_exec::world::{World, begin_cycle, set_left, trace};
+use ak_exec::world::{World, begin_cycle, trace};
 use ak_labor::config::Config;
 use ak_labor::port::{Port, PortError};
-use ak_labor::work::Arrivals;
 use ak_laws::law::obeys_laws;
 use ak_program::program::Program;
 use ak_trace::entry::Trace;
 use std::alloc::Global;
 
-/// Runs a program, whose statements are built, on the scheduler, with a port as its pool: one of so many threads as
-/// the settings say, which was asked nothing yet. At most `config.limit` jobs of a priority run in a cycle, which is
-/// at least 1. There are no askers: requests from outside are not built yet. Own; after Async's scheduler in outline.
+/// Runs a program on the scheduler, with a port as its pool: one of so many threads as the settings say, which was
+/// asked nothing yet. At most `config.limit` jobs of a priority run in a cycle, which is at least 1. There are no
+/// askers: requests from outside are not built yet. Own; after Async's scheduler in outline.
 ///
 /// On `Ok` the trace is the machine's for the port's replies, the machine has ended, and what the port was asked is
 /// what the machine asks, with its waits; the last call is the close. Where the trace ends idle, a reply has brought
@@ -38,14 +34,13 @@ use std::alloc::Global;
 /// `Fault`, only where a call of the port answered it: the machine then wants the reply to that call, which stands last
 /// among the port's calls and alone has no reply. `NoMemory` for want of memory: the calls on the port until then are
 /// those of the machine, each with its reply, the machine wants the reply to a call that was not made, and the port can
-/// still be closed.
+/// still be closed. The waits are the machine's too, which has one more where a wait found no memory.
 pub fn run<P: Port>(
     alloc: Global,
     program: Program,
     config: Config,
     port: &mut P,
 ) -> Result<Trace, PortError<P::Fault>>
-    requires built { AreBuilt program.procs }
     requires limit { 1 ≤ config.limit }
     requires threads { config.threads ≡ P.threads port.old }
     requires askers { config.askers ≡ P.askers port.old }
@@ -54,7 +49,8 @@ pub fn run<P: Port>(
     requires replied { P.replies port.old ≡ [] }
     requires waited { P.waits port.old ≡ [] }
     ensures ended { IfOk result (λ trace.
-        HasEndedWith (run_of program config (P.replies port.new)) trace (P.asked port.new) (P.waits port.new)) }
+        HasEndedWith (run_of program config (P.replies port.new)) trace
+        (P.asked port.new) (P.waits port.new)) }
     ensures finished { IfOk result (λ trace. IsFinished (status_of trace)) }
     ensures idle { IfOk result (λ trace.
         EndsIdle trace → outstanding (P.asked port.new) (P.replies port.new) ≡ []) }
@@ -79,7 +75,6 @@ pub fn run<P: Port>(
 
 // The world of a program, whose first cycle has begun.
 fn begin(alloc: Global, program: Program, config: Config) -> Result<World, NoMemory>
-    requires built { AreBuilt program.procs }
     requires limit { 1 ≤ config.limit }
     requires no_askers { config.askers ≡ 0 }
     ensures { IfOk result (λ world. world ≡ first_world program config) }
@@ -91,14 +86,16 @@ fn begin(alloc: Global, program: Program, config: Config) -> Result<World, NoMem
 
 // Turns, to the end of the run, and the close of the port.
 fn drive<P: Port>(alloc: Global, world: &mut World, port: &mut P) -> Result<(), PortError<P::Fault>>
-    requires at { IsAt true world.old.program world.old.config world.old
+    requires at { IsAt world.old.program world.old.config world.old
         (P.asked port.old) (P.replies port.old) (P.waits port.old) }
+    requires threads { world.old.config.threads ≡ P.threads port.old }
     requires askers { world.old.config.askers ≡ P.askers port.old }
     ensures ended { OnOk result (HasEndedWith
         (run_of world.old.program world.old.config (P.replies port.new)) world.new.plain.trace
         (P.asked port.new) (P.waits port.new)) }
     ensures finished { OnOk result (IsFinished (status_of world.new.plain.trace)) }
-    ensures brought { OnOk result (outstanding (P.asked port.new) (P.replies port.new) ≡ []) }
+    ensures idle { OnOk result (EndsIdle world.new.plain.trace
+        → outstanding (P.asked port.new) (P.replies port.new) ≡ []) }
     ensures closed { OnOk result (EndsClosed (P.asked port.new)) }
     ensures threads { P.threads port.new ≡ P.threads port.old }
     ensures askers { P.askers port.new ≡ P.askers port.old }
@@ -117,18 +114,19 @@ fn drive<P: Port>(alloc: Global, world: &mut World, port: &mut P) -> Result<(), 
     Ok(())
 }
 
-// One drain, and what follows it. The answer is whether the run goes on.
+// Drains and cycles up to the next job, and that job. The answer is whether the run goes on.
 fn turn<P: Port>(
     alloc: Global,
     world: &mut World,
     port: &mut P,
 ) -> Result<bool, PortError<P::Fault>>
-    requires at { IsAt true world.old.program world.old.config world.old
+    requires at { IsAt world.old.program world.old.config world.old
         (P.asked port.old) (P.replies port.old) (P.waits port.old) }
+    requires threads { world.old.config.threads ≡ P.threads port.old }
     requires askers { world.old.config.askers ≡ P.askers port.old }
-    ensures at { IfOk result (λ on. IsAt on world.old.program world.old.config world.new
+    ensures on { IfOk result (λ on. GoesOn on world.old.program world.old.config world.new
         (P.asked port.new) (P.replies port.new) (P.waits port.new)) }
-    ensures left { IfOk result (λ on. on ≡ true → turns_left world.new < turns_left world.old) }
+    ensures left { IfOk result (λ on. on ≡ true → jobs_left world.new < jobs_left world.old) }
     ensures threads { P.threads port.new ≡ P.threads port.old }
     ensures askers { P.askers port.new ≡ P.askers port.old }
     ensures fault { IsFault result → WantsLast
@@ -138,26 +136,8 @@ fn turn<P: Port>(
         → WantsNext (run_of world.old.program world.old.config (P.replies port.new))
         (P.asked port.new) (P.replies port.new) (P.waits port.new) }
 {
-    let arrivals = fetch(alloc, port)?;
-    set_left(world, arrivals.left());
-    let on = advance(world)?;
-    Ok(on)
-}
-
-// Drains a port to which no work was handed in and which was told no answer, while no asker is left.
-fn fetch<P: Port>(alloc: Global, port: &mut P) -> Result<Arrivals, PortError<P::Fault>>
-    requires open { IsOpen (P.asked port.old) (P.replies port.old) }
-    requires no_work { filter_map handed_by (P.asked port.old) ≡ [] }
-    requires no_answer { filter_map answered_by (P.asked port.old) ≡ [] }
-    requires none_left { left_after (P.askers port.old) (P.replies port.old) ≡ 0 }
-    ensures nothing { IfOk result (λ arrivals. arrivals ≡ nothing_arrived) }
-    ensures asked { IsAsked ask.Drain (λ _. Drained nothing_arrived)
-        (P.asked port.old) (P.asked port.new) (P.replies port.old) (P.replies port.new) result }
-    ensures waits { P.waits port.new ≡ P.waits port.old }
-    ensures threads { P.threads port.new ≡ P.threads port.old }
-    ensures askers { P.askers port.new ≡ P.askers port.old }
-{
-    let mut arrivals = Arrivals::make(alloc);
-    port.drain(&mut arrivals)?;
-    Ok(arrivals)
+    if !reach_pick(alloc, world, port)? {
+        return Ok(false);
+    }
+    run_next(world, port)
 }

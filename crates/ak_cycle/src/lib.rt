@@ -2,4 +2,5 @@
 #![tactic(auto)]
 
 pub mod cycle;
+mod round;
 mod turn;

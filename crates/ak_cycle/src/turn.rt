@@ -1,79 +1,43 @@
-//! What follows a drain that brought nothing, up to the next drain or the close.
+//! The next job, or the end of a run at its limit of jobs.
 
-ghost use Rattle.std.specs.Prelude.{◌≡◌, List, false, true, nat_le, None, IfOk, OnErr};
-ghost use Rattle.ak_labor.specs.declared.ask.Ask.{Ask};
+ghost use Rattle.std.specs.Prelude.{◌≡◌, ◌<◌, true, IfOk};
+ghost use Rattle.ak_labor.specs.Calls.{IsFault};
+ghost use Rattle.ak_machine.specs.Run.{run_of};
 ghost use Rattle.ak_rings.specs.Queues.{has_pick};
-ghost use Rattle.ak_cycle.specs.Turns.{drained_with, IsTurned, IsAsking};
+ghost use Rattle.ak_exec.specs.Asks.{IsNoMemory};
+ghost use Rattle.ak_cycle.specs.Runs.{WantsLast, WantsNext};
+ghost use Rattle.ak_cycle.specs.Turns.{IsServed, GoesOn, jobs_left};
 
-use ak_base::list::NoMemory;
-use ak_exec::world::{
-    World, begin_cycle, can_pick, finish, more, outstanding, pick, quiet, run_frame, spent,
-};
+use ak_exec::world::{World, finish, pick, run_frame, spent};
+use ak_labor::port::{Port, PortError};
 use ak_machine::flow::Flow;
 use ak_trace::entry::Ending;
 
-/// Runs the next job, or ends the cycle or the run. The answer is whether the run goes on.
-pub fn advance(world: &mut World) -> Result<bool, NoMemory>
-    requires free { world.old.picked ≡ None }
-    requires none_left { world.old.plain.left ≡ 0 }
-    ensures turned { IfOk result (λ on. IsTurned world.old on world.new) }
-    ensures memory { OnErr result ((asked : List Ask)
-        → IsAsking (drained_with world.old asked) asked) }
-{
-    if !can_pick(world) {
-        return end_cycle(world);
-    }
-    if spent(world) {
-        return end_at_limit(world);
-    }
-    run_next(world)
-}
-
-// Runs the next job.
-fn run_next(world: &mut World) -> Result<bool, NoMemory>
+/// Runs the next job, where fewer ran than the limit allows, and else ends the run. The answer is whether it goes on.
+pub fn run_next<P: Port>(world: &mut World, port: &mut P) -> Result<bool, PortError<P::Fault>>
+    requires served { IsServed world.old.program world.old.config world.old
+        (P.asked port.old) (P.replies port.old) (P.waits port.old) }
     requires pick { has_pick world.old.plain.queues ≡ true }
-    requires unspent { nat_le world.old.config.jobs world.old.ran ≡ false }
-    requires free { world.old.picked ≡ None }
-    ensures turned { IfOk result (λ on. IsTurned world.old on world.new) }
-    ensures memory { OnErr result ((asked : List Ask)
-        → IsAsking (drained_with world.old asked) asked) }
+    requires askers { world.old.config.askers ≡ P.askers port.old }
+    ensures on { IfOk result (λ on. GoesOn on world.old.program world.old.config world.new
+        (P.asked port.new) (P.replies port.new) (P.waits port.new)) }
+    ensures left { IfOk result (λ on. on ≡ true → jobs_left world.new < jobs_left world.old) }
+    ensures threads { P.threads port.new ≡ P.threads port.old }
+    ensures askers { P.askers port.new ≡ P.askers port.old }
+    ensures fault { IsFault result → WantsLast
+        (run_of world.old.program world.old.config (P.replies port.new))
+        (P.asked port.new) (P.replies port.new) (P.waits port.new) }
+    ensures memory { IsNoMemory result
+        → WantsNext (run_of world.old.program world.old.config (P.replies port.new))
+        (P.asked port.new) (P.replies port.new) (P.waits port.new) }
 {
+    if spent(world) {
+        finish(world, Ending::Jobs)?;
+        return Ok(false);
+    }
     let _no = pick(world);
-    match run_frame(world)? {
+    match run_frame(world, port)? {
         Flow::On => Ok(true),
         _ => Ok(false),
     }
-}
-
-// Ends the run, since as many jobs ran as the limit allows and one more could run.
-fn end_at_limit(world: &mut World) -> Result<bool, NoMemory>
-    requires pick { has_pick world.old.plain.queues ≡ true }
-    requires spent { nat_le world.old.config.jobs world.old.ran ≡ true }
-    requires free { world.old.picked ≡ None }
-    ensures turned { IfOk result (λ on. IsTurned world.old on world.new) }
-    ensures memory { OnErr result ((asked : List Ask)
-        → IsAsking (drained_with world.old asked) asked) }
-{
-    finish(world, Ending::Jobs)?;
-    Ok(false)
-}
-
-// Begins the next cycle where something is left to do, and else ends the run idle, as no asker is left.
-fn end_cycle(world: &mut World) -> Result<bool, NoMemory>
-    requires pick { has_pick world.old.plain.queues ≡ false }
-    requires free { world.old.picked ≡ None }
-    requires none_left { world.old.plain.left ≡ 0 }
-    ensures turned { IfOk result (λ on. IsTurned world.old on world.new) }
-    ensures memory { OnErr result ((asked : List Ask)
-        → IsAsking (drained_with world.old asked) asked) }
-{
-    if more(world) {
-        begin_cycle(world)?;
-        return Ok(true);
-    }
-    // their contracts say that no asker may ask, and that no work is outstanding
-    let _quiet = quiet(world);
-    let _works = outstanding(world);
-    finish(world, Ending::Idle)?;
-    Ok(false)
 }

@@ -29,7 +29,7 @@ result_named old vals vals' i number own e =
     ap (values_mapped (name_in old.names)) e ∙ map-append (value_mapped (name_in old.names)) vals (Def i ∷ [])
     ∙ ap (λ k. named old vals ++ Def k ∷ []) (own ∙ number)
 
-goes_bound : (old two : Seen) (vals vals' : List Value) (i : ℕ) (t : State) → two ≡ seen_as old.names t → i ≡ length old.plain.cells.ivars
+pub goes_bound : (old two : Seen) (vals vals' : List Value) (i : ℕ) (t : State) → two ≡ seen_as old.names t → i ≡ length old.plain.cells.ivars
     → name_in old.names i ≡ i → vals' ≡ vals ++ Def i ∷ [] → Takes (effect.Goes t (result_bound old.plain (named old vals))) Goes old two vals'
 goes_bound old two vals vals' i t e number own p =
     let bound : named two vals' ≡ result_bound old.plain (named old vals) =

@@ -5,7 +5,7 @@ mod Lists
 pub mod Way
 pub mod Returned
 pub mod Picks
+pub mod Asking
 mod Whole
-mod Unbuilt
-mod Sent
 mod Throttled
+mod Piped

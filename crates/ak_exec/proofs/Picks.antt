@@ -47,6 +47,8 @@ by_fits program n (Some job) b s f = record {
   purposes = f.purposes;
   clock = f.clock;
   throttles = f.throttles;
+  pipes = f.pipes;
+  works = f.works;
 }
 by_fits program n None (Some job) s f = record {
   handlers = f.handlers;
@@ -56,6 +58,8 @@ by_fits program n None (Some job) s f = record {
   purposes = f.purposes;
   clock = f.clock;
   throttles = f.throttles;
+  pipes = f.pipes;
+  works = f.works;
 }
 by_fits program n None None s f = record {
   handlers = f.handlers;
@@ -65,6 +69,8 @@ by_fits program n None None s f = record {
   purposes = f.purposes;
   clock = f.clock;
   throttles = f.throttles;
+  pipes = f.pipes;
+  works = f.works;
 }
 
 pub left_fits : (program : List NumProc) (s : State) → Fits program s → Fits program (without_pick s)

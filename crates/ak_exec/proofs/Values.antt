@@ -4,7 +4,7 @@ use Rattle.std.specs.Prelude.{pos, Option, Some, None, All, MatchOption}
 use Rattle.std.specs.List.{AllByRecursion, AllZip, Any as AnyOf, slice_get}
 use Rattle.std.proofs.lemmas.List.Elements.{All-from_recursion}
 use Rattle.ak_script.specs.declared.script.Kind.{Kind}
-use Rattle.ak_script.specs.declared.script.Kind.TheVariants.{Num, Ivar, Def, Mon, Thr, Event}
+use Rattle.ak_script.specs.declared.script.Kind.TheVariants.{Num, Ivar, Def, Mon, Pipe, Thr, Event, Helper}
 use Rattle.ak_script.specs.Kinds.{Serves}
 use Rattle.ak_frames.specs.declared.value.Value.{Value}
 use Rattle.ak_frames.specs.declared.value.Value.TheVariants as value
@@ -14,7 +14,7 @@ use Rattle.ak_program.specs.declared.statement.NumAtom.{NumAtom}
 use Rattle.ak_program.specs.declared.statement.NumAtom.TheVariants.{Literal, Local}
 use Rattle.ak_program.specs.Programs.{local as used, number, returned, IsKnown, IsPassed, Takes, IsCallable, NumCallee}
 use Rattle.ak_machine.specs.Effect.{local, value_of, args_of, name_of, name_in}
-use Rattle.ak_state.specs.Reads.{IsNum, IsNumAt, IsDeferred, IsMonitor, IsThrottle, IsEvent, IsEventAt, IsBound, AreBound}
+use Rattle.ak_state.specs.Reads.{IsNum, IsNumAt, IsDeferred, IsMonitor, IsThrottle, IsEvent, IsEventAt, IsBound, AreBound, IsPipe, IsHelper, IsHelperAt}
 use Rattle.ak_program.specs.declared.statement.NumChoice.{NumChoice}
 use Rattle.ak_machine.specs.Statement.{choosable}
 use Rattle.ak_state.specs.Drawn.{Drawn}
@@ -91,6 +91,14 @@ event_value : (n : Drawn) (v : Value) → ValueFits n Event v → IsEvent v
 event_value n (value.Event e) f = tt
 event_value n v f = absurd f
 
+pipe_value : (n : Drawn) (v : Value) → ValueFits n Pipe v → IsPipe n.pipes v
+pipe_value n (value.Pipe p) f = f
+pipe_value n v f = absurd f
+
+pub pipe_at : (n : Drawn) (kinds : List Kind) (vals : List Value) (k : ℕ) → ValsFit n kinds vals → IsKnown kinds (used k Pipe)
+    → IsPipe n.pipes (local vals k)
+pipe_at n kinds vals k f h = pipe_value n (local vals k) (local_fits n kinds vals k Pipe f h).1
+
 thr_value : (n : Drawn) (v : Value) → ValueFits n Thr v → IsThrottle n.throttles v
 thr_value n (value.Thr t) f = f
 thr_value n v f = absurd f
@@ -102,6 +110,14 @@ thr_at n kinds vals k f h = thr_value n (local vals k) (local_fits n kinds vals 
 pub event_at : (n : Drawn) (kinds : List Kind) (vals : List Value) (k : ℕ) → ValsFit n kinds vals → IsKnown kinds (used k Event)
     → IsEventAt vals k
 event_at n kinds vals k f h = let p = local_fits n kinds vals k Event f h in (p.0, event_value n (local vals k) p.1)
+
+helper_value : (n : Drawn) (v : Value) → ValueFits n Helper v → IsHelper v
+helper_value n (value.Helper h) f = tt
+helper_value n v f = absurd f
+
+pub helper_at : (n : Drawn) (kinds : List Kind) (vals : List Value) (k : ℕ) → ValsFit n kinds vals → IsKnown kinds (used k Helper)
+    → IsHelperAt vals k
+helper_at n kinds vals k f h = let p = local_fits n kinds vals k Helper f h in (p.0, helper_value n (local vals k) p.1)
 
 -- ---- atoms
 pub all_front : {A : Type 0} (P : A → Type 0) (xs ys : List A) → AllByRecursion P (xs ++ ys) → AllByRecursion P xs

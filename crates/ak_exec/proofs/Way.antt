@@ -10,13 +10,13 @@ use Rattle.ak_program.specs.declared.program.NumStatement.{NumStatement}
 use Rattle.ak_program.specs.declared.program.NumProc.{NumProc}
 use Rattle.ak_program.specs.Programs.{ProcIsSound}
 use Rattle.ak_machine.specs.State.{State}
-use Rattle.ak_machine.specs.Effect.{Goes, Raises, Returns, Ends}
+use Rattle.ak_labor.specs.declared.ask.Ask.{Ask}
+use Rattle.ak_machine.specs.Effect.{Goes, Raises, Returns, Stops, Ends, Asks}
 use Rattle.ak_machine.specs.Statement.{line_effect}
-use Rattle.ak_machine.specs.Errors.{After, going_on, send}
-use Rattle.ak_machine.specs.Job.{Over, returned, run_lines, lines_of}
+use Rattle.ak_machine.specs.Errors.{After, going_on, stopped, send}
+use Rattle.ak_machine.specs.Job.{Over, Asking, returned, run_lines, lines_of}
 use Rattle.ak_holders.specs.Returns.{LinesReturn}
 use Rattle.ak_holders.proofs.Carry.{returns_on}
-use Rattle.ak_exec.specs.Built.{ProcIsBuilt, AreBuilt}
 use Rattle.ak_state.specs.Drawn.{Drawn}
 use Rattle.ak_state.specs.Fits.{ValsFit, kinds_of, CallFits}
 use Rattle.ak_state.proofs.Fitting.{all_get}
@@ -61,6 +61,27 @@ pub line_ends : (ctx : Ctx) (ret : Ret) (lines : List NumStatement) (line : NumS
     → run_lines ctx ret lines s vals ≡ Over after
 line_ends ctx ret lines line rest s vals after el e = ap (λ ls. run_lines ctx ret ls s vals) el ∙ ends_here ctx ret line rest s vals after e
 
+stops_here : (ctx : Ctx) (ret : Ret) (line : NumStatement) (rest : List NumStatement) (s : State) (vals : List Value)
+    → line_effect ctx line s vals ≡ Stops → run_lines ctx ret (line ∷ rest) s vals ≡ Over (stopped s)
+stops_here ctx ret line rest s vals e = rw (e, run_lines) refl
+
+pub line_stops : (ctx : Ctx) (ret : Ret) (lines : List NumStatement) (line : NumStatement) (rest : List NumStatement) (s : State)
+    (vals : List Value) → lines ≡ line ∷ rest → line_effect ctx line s vals ≡ Stops → run_lines ctx ret lines s vals ≡ Over (stopped s)
+line_stops ctx ret lines line rest s vals el e = ap (λ ls. run_lines ctx ret ls s vals) el ∙ stops_here ctx ret line rest s vals e
+
+-- a line that asks
+asks_here : (ctx : Ctx) (ret : Ret) (line : NumStatement) (rest : List NumStatement) (s s' : State) (vals vals' : List Value) (a : Ask)
+    → line_effect ctx line s vals ≡ Asks a s' vals'
+    → run_lines ctx ret (line ∷ rest) s vals ≡ Asking a s' (record { ctx = ctx; ret = ret; vals = vals'; lines = rest })
+asks_here ctx ret line rest s s' vals vals' a e = rw (e, run_lines) refl
+
+pub line_asks : (ctx : Ctx) (ret ret' : Ret) (lines : List NumStatement) (line : NumStatement) (rest : List NumStatement) (s s' : State)
+    (vals vals' : List Value) (a : Ask) → lines ≡ line ∷ rest → ret' ≡ ret → line_effect ctx line s vals ≡ Asks a s' vals'
+    → run_lines ctx ret lines s vals ≡ Asking a s' (record { ctx = ctx; ret = ret'; vals = vals'; lines = rest })
+line_asks ctx ret ret' lines line rest s s' vals vals' a el er e =
+    ap (λ ls. run_lines ctx ret ls s vals) el ∙ asks_here ctx ret line rest s s' vals vals' a e
+    ∙ ap (λ (r : Ret). Asking a s' (record { ctx = ctx; ret = r; vals = vals'; lines = rest })) (sym er)
+
 -- ---- the lines of a procedure that is called
 pub call_there : (program : List NumProc) (n : Drawn) (proc : ℕ) (vals : List Value) → CallFits program n proc vals → proc < length program
 call_there program n proc vals h = by (slice_get program proc) refl h
@@ -69,9 +90,9 @@ call_there program n proc vals h = by (slice_get program proc) refl h
     by None e f = absurd f
     by (Some p) e f = slice_get_within program proc p e
 
-pub call_typed : (program : List NumProc) (n : Drawn) (proc : ℕ) (vals : List Value) → AllByRecursion (ProcIsSound program) program → AreBuilt program
+pub call_typed : (program : List NumProc) (n : Drawn) (proc : ℕ) (vals : List Value) → AllByRecursion (ProcIsSound program) program
     → CallFits program n proc vals → AreTyped program n vals (lines_of program proc)
-call_typed program n proc vals sound built h = by (slice_get program proc) refl h
+call_typed program n proc vals sound h = by (slice_get program proc) refl h
   where
     by : (o : Option NumProc) → slice_get program proc ≡ o → MatchOption o ⊥ (λ (p : NumProc). ValsFit n (kinds_of p.params) vals)
         → AreTyped program n vals (lines_of program proc)
@@ -85,7 +106,6 @@ call_typed program n proc vals sound built h = by (slice_get program proc) refl 
           vals_fit = f;
           sound =
               (all_get (ProcIsSound program) program proc p sound e).lines;
-          built = all_get ProcIsBuilt program proc p built e;
         })
 
 -- ---- a job that returns to an empty deferred

@@ -6,7 +6,7 @@ use Rattle.ak_program.specs.declared.program.NumPrefix.TheVariants.{If, Unless}
 use Rattle.ak_program.specs.declared.statement.NumStmt.{NumStmt}
 use Rattle.ak_program.specs.declared.statement.NumStmt.TheVariants as stmt
 use Rattle.ak_machine.specs.State.{State}
-use Rattle.ak_state.specs.Reads.{IsNumAt, IsDeferredAt, IsMonitorAt, IsThrottleAt, IsEventAt, IsBound, AreBound, AreDeferredsAt, AreChoicesAt}
+use Rattle.ak_state.specs.Reads.{IsNumAt, IsDeferredAt, IsMonitorAt, IsThrottleAt, IsEventAt, IsBound, AreBound, AreDeferredsAt, AreChoicesAt, IsPipeAt, IsHelperAt}
 
 -- the number of a prefix
 abbrev pub IsTold : List Value → Option NumPrefix → Type 0
@@ -14,7 +14,7 @@ IsTold vals None = Unit {0}
 IsTold vals (Some (If a)) = IsNumAt vals a
 IsTold vals (Some (Unless a)) = IsNumAt vals a
 
--- what each statement that is built needs
+-- what each statement needs
 abbrev pub IsReady : State → List Value → NumStmt → Type 0
 IsReady s vals (stmt.Set x a op b) = IsNumAt vals a × IsNumAt vals b
 IsReady s vals (stmt.Print a) = IsNumAt vals a
@@ -45,5 +45,16 @@ IsReady s vals (stmt.Try r proc args catch catch_args kind) = AreBound vals args
 IsReady s vals (stmt.Throttle t k stop) = 1 ≤ k
 IsReady s vals (stmt.Enqueue r t proc args) = IsThrottleAt s vals t × AreBound vals args
 IsReady s vals (stmt.ThrottleDone r t) = IsThrottleAt s vals t
+IsReady s vals (stmt.Pipe p b) = Unit {0}
+IsReady s vals (stmt.Write r p a) = IsPipeAt s vals p × IsNumAt vals a
+IsReady s vals (stmt.Put p a) = IsPipeAt s vals p × IsNumAt vals a
+IsReady s vals (stmt.Read r p proc args eof eof_args) = IsPipeAt s vals p × AreBound vals args × AreBound vals eof_args
+IsReady s vals (stmt.Close p) = IsPipeAt s vals p
+IsReady s vals (stmt.CloseRead p) = IsPipeAt s vals p
+IsReady s vals (stmt.Flushed r p) = IsPipeAt s vals p
+IsReady s vals (stmt.Work r kind a) = IsNumAt vals a
+IsReady s vals (stmt.Helper h x) = Unit {0}
+IsReady s vals (stmt.HelperWork r h kind a) = IsHelperAt vals h × IsNumAt vals a
+IsReady s vals (stmt.HelperDone h) = IsHelperAt vals h
+IsReady s vals stmt.Stop = Unit {0}
 IsReady s vals (stmt.Ret a) = IsBound (length vals) a
-IsReady s vals other = ⊥

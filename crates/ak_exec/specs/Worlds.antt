@@ -1,8 +1,10 @@
 -- What contracts see of a world.
-use Rattle.std.specs.Prelude.{ℕ, ◌+◌, ◌≡◌, ◌≤◌, [], ◌⊎◌, false, Option, Some, None, IsSome, IfSome}
+use Rattle.std.specs.Prelude.{ℕ, ◌+◌, ◌≡◌, ◌≤◌, List, [], ◌⊎◌, false, Option, Some, None, IsSome, IfSome}
 use Rattle.std.specs.Option.{option_map}
 use Rattle.ak_rings.specs.declared.job.Job.{Job}
 use Rattle.ak_frames.specs.declared.frame.Task.{Task}
+use Rattle.ak_labor.specs.declared.ask.Ask.{Ask}
+use Rattle.ak_labor.specs.Calls.{Reply}
 use Rattle.ak_labor.specs.declared.config.Config.{Config}
 use Rattle.ak_frames.specs.declared.frame.Ret.TheVariants.{Drop}
 use Rattle.ak_rings.specs.Queues.{pick_of}
@@ -14,7 +16,7 @@ use Rattle.ak_machine.specs.Mapped.{job_mapped}
 use Rattle.ak_machine.specs.Job.{Over, run_job}
 use Rattle.ak_state.specs.Seen.{Seen, without_pick}
 use Rattle.ak_program.specs.Programs.{NumProgram}
-use Rattle.ak_exec.specs.Built.{AreBuilt}
+use Rattle.ak_exec.specs.Asks.{Leads, FaultsFrom, StopsFrom}
 use Rattle.ak_state.specs.Errors.{after_is}
 use Rattle.ak_state.specs.Drawn.{drawn}
 use Rattle.ak_state.specs.Fits.{JobFits, Fits}
@@ -38,10 +40,9 @@ pub record ServesAskers (program : NumProgram) (askers : ℕ) : Type 0 where
   pub few : askers ≤ 16
   pub served : (askers ≡ 0) ⊎ IsSome program.ask
 
--- all that a world holds fits its program, whose statements are built; a cycle has room for a job; a procedure serves the askers;
+-- all that a world holds fits its program; a cycle has room for a job; a procedure serves the askers;
 -- and each name has at most one holder
 pub record IsWhole (w : Worldly) : Type 0 where
-  pub built : AreBuilt w.program.procs
   pub limit : 1 ≤ w.config.limit
   pub askers : ServesAskers w.program w.config.askers
   pub fits : Fits w.program.procs w.plain
@@ -66,6 +67,18 @@ with_state s w = record w { plain = s }
 abbrev pub first_state : NumProgram → Config → State
 first_state program config = called (record { mon = 0; low = false }) program.main [] Drop (initial_state config.limit config.askers)
 
--- the state and the flow that the job which was picked comes to
-abbrev pub RunsJob : Worldly → Flow → State → Type 0
-RunsJob w flow s = IfSome w.picked (λ job. run_job w.program.procs job w.plain ≡ Over (after_is flow s))
+-- the job that was picked comes to its end with this flow and state, with its calls on the pool
+abbrev pub JobLeads : Worldly → Flow → State → List Ask → List Ask → List Reply → List Reply → Type 0
+JobLeads w flow s asked asked' replies replies' =
+    IfSome w.picked
+    (λ job. Leads w.program asked replies (run_job w.program.procs job w.plain) asked' replies' (Over (after_is flow s)))
+
+-- the last of its calls failed
+abbrev pub JobFaults : Worldly → List Ask → List Ask → List Reply → List Reply → Type 0
+JobFaults w asked asked' replies replies' =
+    IfSome w.picked (λ job. FaultsFrom w.program asked replies (run_job w.program.procs job w.plain) asked' replies')
+
+-- there was no memory on its way
+abbrev pub JobStops : Worldly → List Ask → List Ask → List Reply → List Reply → Type 0
+JobStops w asked asked' replies replies' =
+    IfSome w.picked (λ job. StopsFrom w.program asked replies (run_job w.program.procs job w.plain) asked' replies')

@@ -1,15 +1,15 @@
 //! What the job of each kind of frame does.
 
-ghost use Rattle.std.specs.Prelude.{◌≡◌, ◌<◌, ◌∷◌, length, None, IfOk, IfSome, OnOk};
-ghost use Rattle.ak_machine.specs.Job.{Over, run_frame as frame_run, run_call_if as call_run, value_or_zero};
+ghost use Rattle.std.specs.Prelude.{◌≡◌, ◌<◌, ◌∷◌, length, None, IfOk, IfSome};
+ghost use Rattle.ak_machine.specs.Job.{run_frame as frame_run, run_call_if as call_run, value_or_zero};
 ghost use Rattle.ak_holders.specs.Returns.{FrameReturns, CallReturns};
-ghost use Rattle.ak_exec.specs.Built.{AreBuilt};
 ghost use Rattle.ak_state.specs.Drawn.{drawn};
 ghost use Rattle.ak_state.specs.Fits.{Fits, FrameFits, CallbackFits};
 ghost use Rattle.ak_state.specs.Reads.{frame_named, call_named};
-ghost use Rattle.ak_state.specs.Errors.{after_is, Ends};
+ghost use Rattle.ak_exec.specs.Steps.{ProgressTells, progress_is};
+ghost use Rattle.ak_exec.specs.Typed.{ProgressFits};
 
-use crate::job::{Running, run_call};
+use crate::job::{Progress, Running, run_call};
 use ak_base::list::{Items, NoMemory};
 use ak_base::number::{Ctx, Num};
 use ak_frames::frame::{Frame, Ret, Task};
@@ -39,51 +39,49 @@ fn with_value(value: Option<Num>, vals: Vals) -> Result<Vals, NoMemory>
 }
 
 /// A call that waited runs in this same job, where there is one.
-fn run_call_if(
-    program: &Program,
+fn run_call_if<'p>(
+    program: &'p Program,
     parts: &mut Parts,
     ctx: Ctx,
     call: Option<Callback>,
-) -> Result<Flow, NoMemory>
-    requires built { AreBuilt program.now.procs }
+) -> Result<Progress<'p>, NoMemory>
     requires monitor { ctx.mon < length parts.old.plain.monitors }
     requires call { IfSome (call_named parts.old call)
         (CallbackFits program.now.procs (drawn parts.old.plain)) }
     requires returns { CallReturns program.now.procs ctx (call_named parts.old call)
         parts.old.plain }
     requires fits { Fits program.now.procs parts.old.plain }
-    ensures fits { OnOk result (Fits program.now.procs parts.new.plain) }
-    ensures told { IfOk result (λ flow. Ends flow parts.new.plain.trace) }
-    ensures runs { IfOk result (λ flow.
+    ensures fits { IfOk result (ProgressFits program.now.procs parts.new) }
+    ensures told { IfOk result (λ progress. ProgressTells progress parts.new.plain.trace) }
+    ensures runs { IfOk result (λ progress.
         call_run program.now.procs ctx (call_named parts.old call) parts.old.plain
-        ≡ Over (after_is flow parts.new.plain)) }
+        ≡ progress_is parts.new progress) }
 {
     let Some(Callback { proc, vals, to }) = call else {
-        return Ok(Flow::On);
+        return Ok(Progress::Over(Flow::On));
     };
     let ret = Ret::To(to);
     run_call(program, parts, Running { ctx, ret }, proc, vals)
 }
 
 /// A frame, with the number that woke it where it waited for one.
-pub fn run_task(
-    program: &Program,
+pub fn run_task<'p>(
+    program: &'p Program,
     parts: &mut Parts,
     ctx: Ctx,
     task: Task,
-) -> Result<Flow, NoMemory>
-    requires built { AreBuilt program.now.procs }
+) -> Result<Progress<'p>, NoMemory>
     requires monitor { ctx.mon < length parts.old.plain.monitors }
     requires frame { FrameFits program.now.procs (drawn parts.old.plain)
         (frame_named parts.old task.frame) }
     requires returns { FrameReturns program.now.procs ctx
         (frame_named parts.old task.frame) (value_or_zero task.value) parts.old.plain }
     requires fits { Fits program.now.procs parts.old.plain }
-    ensures fits { OnOk result (Fits program.now.procs parts.new.plain) }
-    ensures told { IfOk result (λ flow. Ends flow parts.new.plain.trace) }
-    ensures runs { IfOk result (λ flow.
+    ensures fits { IfOk result (ProgressFits program.now.procs parts.new) }
+    ensures told { IfOk result (λ progress. ProgressTells progress parts.new.plain.trace) }
+    ensures runs { IfOk result (λ progress.
         frame_run program.now.procs ctx (frame_named parts.old task.frame)
-        (value_or_zero task.value) parts.old.plain ≡ Over (after_is flow parts.new.plain)) }
+        (value_or_zero task.value) parts.old.plain ≡ progress_is parts.new progress) }
 {
     let Task { frame, value } = task;
     match frame {
@@ -104,17 +102,21 @@ pub fn run_task(
         }
         Frame::TryDone { guard } => {
             parts.end_try(guard, number_of(value))?;
-            Ok(Flow::On)
+            Ok(Progress::Over(Flow::On))
         }
         Frame::BodyDone { body } => {
             parts.end_body(&body, number_of(value))?;
-            Ok(Flow::On)
+            Ok(Progress::Over(Flow::On))
         }
         Frame::BodyFailed { body, num } => {
             parts.fail_body(&body)?;
-            parts.send(ctx.mon, num)
+            let flow = parts.send(ctx.mon, num)?;
+            Ok(Progress::Over(flow))
         }
-        Frame::Raise { num } => parts.send(ctx.mon, num),
+        Frame::Raise { num } => {
+            let raised = parts.send(ctx.mon, num)?;
+            Ok(Progress::Over(raised))
+        }
         _ => unreachable!(),
     }
 }

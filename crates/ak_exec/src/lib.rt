@@ -2,7 +2,7 @@
 #![tactic(auto)]
 
 mod arithmetic;
-pub mod built;
+mod asks;
 mod frames;
 mod job;
 mod returns;

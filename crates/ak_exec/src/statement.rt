@@ -11,11 +11,14 @@ use crate::statements::deferred::{bind, fill, ivar, never, offer, upon};
 use crate::statements::groups::{all, any, choose, try_body};
 use crate::statements::jobs::{call, raise, ret};
 use crate::statements::monitors::{detach, monitor, next_error, on_error, send, within};
+use crate::statements::pipes::{close, close_read, flushed, pipe, put, rd, write};
 use crate::statements::throttles::{enqueue, throttle, throttle_done};
 use crate::statements::values::{print, set};
+use crate::statements::works::{helper, helper_done, helper_work, work};
 use ak_base::list::NoMemory;
 use ak_base::number::{Ctx, Num};
 use ak_frames::value::{Vals, Value};
+use ak_labor::ask::Ask;
 use ak_machine::flow::Flow;
 use ak_program::statement::NumStmt;
 use ak_state::parts::Parts;
@@ -26,8 +29,11 @@ pub enum Step {
     Goes,
     Raises(Num),
     Returns(Value),
+    Stops,
     /// An error that nobody caught ends the run.
     Ends(Flow),
+    /// It asks the pool, and goes on with the reply.
+    Asks(Ask),
 }
 
 /// One statement of a job.
@@ -86,8 +92,28 @@ pub fn run_statement(
         NumStmt::Throttle { t, k, stop } => throttle(parts, ctx, vals, *t, *k, *stop),
         NumStmt::Enqueue { r, t, proc, args } => { enqueue(parts, ctx, vals, *r, *t, *proc, args) }
         NumStmt::ThrottleDone { r, t } => throttle_done(parts, ctx, vals, *r, *t),
+        NumStmt::Pipe { p, b } => pipe(parts, ctx, vals, *p, *b),
+        NumStmt::Write { r, p, a } => write(parts, ctx, vals, *r, *p, *a),
+        NumStmt::Put { p, a } => put(parts, ctx, vals, *p, *a),
+        NumStmt::Read {
+            r,
+            p,
+            proc,
+            args,
+            eof,
+            eof_args,
+        } => rd(parts, ctx, vals, *r, *p, *proc, args, *eof, eof_args),
+        NumStmt::Close { p } => close(parts, ctx, vals, *p),
+        NumStmt::CloseRead { p } => close_read(parts, ctx, vals, *p),
+        NumStmt::Flushed { r, p } => flushed(parts, ctx, vals, *r, *p),
         NumStmt::Raise { a } => raise(parts, ctx, vals, *a),
+        NumStmt::Work { r, kind, a } => work(parts, ctx, vals, *r, *kind, *a),
+        NumStmt::Helper { h, x } => helper(parts, ctx, vals, *h, *x),
+        NumStmt::HelperWork { r, h, kind, a } => {
+            helper_work(parts, ctx, vals, *r, *h, *kind, *a)
+        }
+        NumStmt::HelperDone { h } => helper_done(parts, ctx, vals, *h),
+        NumStmt::Stop => Ok(Step::Stops),
         NumStmt::Ret { a } => ret(parts, ctx, vals, *a),
-        _ => unreachable!(),
     }
 }

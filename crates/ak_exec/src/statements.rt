@@ -5,5 +5,7 @@ pub mod deferred;
 pub mod groups;
 pub mod jobs;
 pub mod monitors;
+pub mod pipes;
 pub mod throttles;
 pub mod values;
+pub mod works;

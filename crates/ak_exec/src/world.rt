@@ -1,21 +1,25 @@
 //! The scheduler's state with its program, and the calls that a cycle is made of.
 
-ghost use Rattle.std.specs.Prelude.{◌≡◌, ◌≤◌, ◌<◌, not, IsSome, None, OnOk, OnErr, IfOk, nat_le, false, true};
+ghost use Rattle.std.specs.Prelude.{◌≡◌, ◌≤◌, ◌<◌, not, find, IsSome, Some, None, OnOk, OnErr, IfOk, nat_le, false, true};
 ghost use Rattle.std.specs.Option.{option_map};
 ghost use Rattle.ak_base.specs.Lists.{is_empty_list};
 ghost use Rattle.ak_rings.specs.Queues.{pick_of, has_pick};
-ghost use Rattle.ak_machine.specs.Cycle.{cycle_begun, has_more, is_stuck, is_quiet, with_left};
+ghost use Rattle.ak_labor.specs.Calls.{IsOpen, IsFault};
+ghost use Rattle.ak_machine.specs.Cycle.{cycle_begun, has_more, is_stuck, is_quiet, with_left, is_work, arrive as arrives};
 ghost use Rattle.ak_machine.specs.Deferred.{noting};
-ghost use Rattle.ak_exec.specs.Built.{AreBuilt};
-ghost use Rattle.ak_state.specs.Errors.{Ends};
+ghost use Rattle.ak_state.specs.Errors.{Ends, after_is};
 ghost use Rattle.ak_exec.specs.Throttled.{ThrottlesHold};
-ghost use Rattle.ak_exec.specs.Worlds.{with_pick, with_state, first_state, ServesAskers, RunsJob};
+ghost use Rattle.ak_exec.specs.Worlds.{with_pick, with_state, first_state, ServesAskers, JobLeads, JobFaults, JobStops};
+ghost use Rattle.ak_ledger.specs.Outside.{IsInStep};
+ghost use Rattle.ak_exec.specs.Asks.{IsInStepAfter, IsQuietSince, IsNoMemory};
 
-use crate::job::run_job;
+use crate::asks::run_through;
 use ak_base::list::{Items, NoMemory};
-use ak_base::number::{Ctx, JobNo, MonNo};
+use ak_base::number::{Ctx, JobNo, MonNo, WorkNo};
 use ak_frames::frame::{Frame, Ret, Task};
 use ak_labor::config::Config;
+use ak_labor::port::{Port, PortError};
+use ak_labor::work::Outcome;
 use ak_machine::flow::Flow;
 use ak_program::program::Program;
 use ak_rings::job::Job;
@@ -46,7 +50,7 @@ impl Model for World {
 }
 
 impl World {
-    /// The world of a program whose statements are built. The call of `main` is enqueued as job 0 in the root
+    /// The world of a program. The call of `main` is enqueued as job 0 in the root
     /// monitor, at normal priority. At most `config.limit` jobs of a priority run in a cycle, which is at least 1. There
     /// are `config.askers` askers, which are at most 16, and 0 where the program has no procedure `ask`.
     ///
@@ -54,7 +58,6 @@ impl World {
     ///
     /// `NoMemory`.
     pub fn make(alloc: Global, program: Program, config: Config) -> Result<World, NoMemory>
-        requires built { AreBuilt program.procs }
         requires limit { 1 ≤ config.limit }
         requires askers { ServesAskers program config.askers }
         ensures world { IfOk result (λ world. world
@@ -121,24 +124,64 @@ pub fn pick(world: &mut World) -> Option<JobNo>
     }
 }
 
-/// Runs the job that was picked, and keeps none.
+/// Runs the job that was picked, to its end, with its calls on the port, and keeps none. The works and helpers of the world are
+/// those of the port's calls and replies, each of the calls has its reply, and none was the close.
+///
+/// # Errors
+///
+/// `Fault`, only where a call of the port answered it: the job came to that call, which stands last among the port's calls and
+/// alone has no reply. `NoMemory`: each call has its reply. The world is given up then.
+pub fn run_frame<P: Port>(world: &mut World, port: &mut P) -> Result<Flow, PortError<P::Fault>>
+    requires picked { IsSome world.old.picked }
+    requires open { IsOpen (P.asked port.old) (P.replies port.old) }
+    requires in_step { IsInStep (P.askers port.old) (P.asked port.old) (P.replies port.old)
+        world.old.plain }
+    ensures runs { IfOk result (λ flow. JobLeads world.old flow world.new.plain
+        (P.asked port.old) (P.asked port.new) (P.replies port.old) (P.replies port.new)) }
+    ensures told { IfOk result (λ flow. Ends flow world.new.plain.trace) }
+    ensures world { OnOk result (world.new
+        ≡ record world.old { plain = world.new.plain; picked = None }) }
+    ensures open { OnOk result (IsOpen (P.asked port.new) (P.replies port.new)) }
+    ensures quiet { OnOk result
+        (IsQuietSince (P.askers port.old) (P.replies port.old) (P.replies port.new)) }
+    ensures in_step { IfOk result (λ flow. IsInStepAfter (P.askers port.new)
+        (P.asked port.new) (P.replies port.new) flow world.new.plain) }
+    ensures fault { IsFault result → JobFaults world.old
+        (P.asked port.old) (P.asked port.new) (P.replies port.old) (P.replies port.new) }
+    ensures memory { IsNoMemory result → JobStops world.old
+        (P.asked port.old) (P.asked port.new) (P.replies port.old) (P.replies port.new) }
+    ensures threads { P.threads port.new ≡ P.threads port.old }
+    ensures askers { P.askers port.new ≡ P.askers port.old }
+    ensures turns { P.turns port.new ≤ P.turns port.old }
+    ensures waits { P.waits port.new ≡ P.waits port.old }
+{
+    let Some(job) = world.picked.take() else {
+        unreachable!()
+    };
+    match run_through(&world.program, &mut world.parts, port, job) {
+        Ok(flow) => Ok(flow),
+        Err(e) => {
+            world.parts.reset(world.config.limit, world.config.askers);
+            Err(e)
+        }
+    }
+}
+
+/// The outcome of an outstanding work arrives: a value fills the work's result, and an error is sent to the monitor of the context
+/// that submitted it.
 ///
 /// # Errors
 ///
 /// `NoMemory`. The world is given up then.
-pub fn run_frame(world: &mut World) -> Result<Flow, NoMemory>
-    requires picked { IsSome world.old.picked }
-    ensures runs { IfOk result (λ flow. RunsJob world.old flow world.new.plain) }
+pub fn arrive(world: &mut World, work: WorkNo, outcome: Outcome) -> Result<Flow, NoMemory>
+    requires out { IsSome (find (is_work work) world.old.plain.works) }
+    requires free { world.old.picked ≡ None }
+    ensures arrived { IfOk result (λ flow. arrives work outcome world.old.plain
+        ≡ Some (after_is flow world.new.plain)) }
     ensures told { IfOk result (λ flow. Ends flow world.new.plain.trace) }
-    ensures world { OnOk result (world.new
-        ≡ record world.old { plain = world.new.plain; picked = None }) }
+    ensures world { OnOk result (world.new ≡ with_state world.new.plain world.old) }
 {
-    // For the proof alone: its contract says that the program is sound.
-    let _main = world.program.main();
-    let Some(job) = world.picked.take() else {
-        unreachable!()
-    };
-    match run_job(&world.program, &mut world.parts, job) {
+    match world.parts.arrive(work, outcome) {
         Ok(flow) => Ok(flow),
         Err(e) => {
             world.parts.reset(world.config.limit, world.config.askers);
@@ -174,16 +217,15 @@ pub fn more(world: &World) -> bool
     world.parts.has_more()
 }
 
-/// Whether a work is outstanding. None is, as works are not built.
+/// Whether a work is outstanding.
 pub fn outstanding(world: &World) -> bool
-    ensures works { result ≡ not (is_empty_list world.now.plain.works) }
-    ensures none { result ≡ false }
+    ensures { result ≡ not (is_empty_list world.now.plain.works) }
 {
     world.parts.has_work()
 }
 
 /// Whether a work is outstanding, every such work is general, and at least as many helpers as there are threads are
-/// granted and not ended. No work is outstanding, as works are not built.
+/// granted and not ended.
 pub fn stuck(world: &World) -> bool
     ensures { result ≡ is_stuck world.now.config.threads world.now.plain }
 {

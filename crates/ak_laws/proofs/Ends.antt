@@ -11,7 +11,7 @@ use Rattle.ak_machine.specs.State.{State}
 use Rattle.ak_machine.specs.Run.{Place, AtDrain, AtJob, AtClose, Ended as HasClosed, Wrong, Machine, Ran, HasEnded, Wants, IsWrong, ran_to, run_of}
 use Rattle.ak_machine.specs.Run.{machine_after}
 use Rattle.ak_laws.specs.Ends.{IsNoEnd, EndsOnce}
-use Rattle.ak_laws.proofs.Kept.{Ended}
+use Rattle.ak_ledger.proofs.Still.{Ended}
 use Rattle.ak_laws.proofs.Loose.{IsAside, by_runs}
 use Rattle.ak_laws.proofs.KeptRun.{PlaceHas, KeptByRuns, run_keeps, anything, brings_anything}
 

@@ -20,7 +20,8 @@ use Rattle.ak_machine.specs.Deferred.{noting, plain_task, woken_task, enqueue, w
 use Rattle.ak_machine.specs.Works.{with_request, answered}
 use Rattle.ak_machine.specs.Job.{value_or_zero}
 use Rattle.ak_machine.specs.Cycle.{at_root, is_other_work, request_arrived}
-use Rattle.ak_laws.proofs.Kept.{IsQuiet, Parts, Kept}
+use Rattle.ak_ledger.proofs.Still.{IsQuiet}
+use Rattle.ak_laws.proofs.Kept.{Parts, Kept}
 use Rattle.ak_laws.proofs.KeptRun.{left_by, KeptByRuns, anything}
 
 -- an entry that says nothing of jobs, cycles and the end

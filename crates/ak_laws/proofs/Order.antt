@@ -16,7 +16,7 @@ use Rattle.ak_machine.specs.Deferred.{noting, enqueue}
 use Rattle.ak_machine.specs.Run.{HasEnded, run_of, machine_after}
 use Rattle.ak_cells.specs.Names.{renamed}
 use Rattle.ak_laws.specs.Order.{Waiting, nothing_waits, with_waiting, Follows, Leads, IsInOrder}
-use Rattle.ak_laws.proofs.Kept.{Ended}
+use Rattle.ak_ledger.proofs.Still.{Ended}
 use Rattle.ak_laws.proofs.Loose.{IsAside, by_runs}
 use Rattle.ak_laws.proofs.KeptRun.{KeptByRuns, run_keeps, anything, brings_anything}
 use Rattle.ak_laws.proofs.Ends.{at_end}

@@ -35,7 +35,8 @@ use Rattle.ak_machine.specs.Run.{HasEnded, run_of, machine_after}
 use Rattle.ak_holders.specs.Holders.{total}
 use Rattle.ak_holders.proofs.Carry.{first_is}
 use Rattle.ak_laws.specs.Requests.{RequestsAreServed}
-use Rattle.ak_laws.proofs.Kept.{IsQuiet, Parts, parts_of, Kept, Ended}
+use Rattle.ak_ledger.proofs.Still.{IsQuiet, Ended}
+use Rattle.ak_laws.proofs.Kept.{Parts, parts_of, Kept}
 use Rattle.ak_laws.proofs.KeptRun.{left_by, KeptByRuns, run_keeps, anything, brings_anything}
 use Rattle.ak_laws.proofs.Ends.{at_end}
 use Rattle.ak_laws.proofs.Serving.{job_answers, JobKnows, Serving, IsSilent, entry_served, taken_served, dropped_served, queued_served}

@@ -23,7 +23,8 @@ use Rattle.ak_holders.specs.Holders.{total}
 use Rattle.ak_holders.proofs.Carry.{all_by, all_filter, all_map, total_push, total_parts, total_filter, total_of_map, other_than}
 use Rattle.ak_laws.specs.Places.{EachAfter}
 use Rattle.ak_laws.specs.Requests.{asked_by, asked, is_answer_of, behind, name_by, Fills, IsServed}
-use Rattle.ak_laws.proofs.Kept.{IsNoAnswer, Parts}
+use Rattle.ak_ledger.proofs.Still.{IsNoAnswer}
+use Rattle.ak_laws.proofs.Kept.{Parts}
 use Rattle.ak_laws.proofs.Asked.{longer, or_else, behind_more, IsNamed, named_more, fills_more, fills_now, asked_same, asked_one, IsNew, served_push}
 
 -- ---- how many times each of these answers a request

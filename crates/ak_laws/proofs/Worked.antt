@@ -24,7 +24,8 @@ use Rattle.ak_machine.specs.Cycle.{at_root, request_arrived}
 use Rattle.ak_machine.specs.Run.{HasEnded, run_of, machine_after}
 use Rattle.ak_laws.specs.Places.{EachAfter}
 use Rattle.ak_laws.specs.Works.{WorksArriveOnce, BringsValues}
-use Rattle.ak_laws.proofs.Kept.{IsQuiet, Parts, parts_of, Kept, Ended}
+use Rattle.ak_ledger.proofs.Still.{IsQuiet, Ended}
+use Rattle.ak_laws.proofs.Kept.{Parts, parts_of, Kept}
 use Rattle.ak_laws.proofs.KeptRun.{left_by, KeptByRuns, run_keeps}
 use Rattle.ak_laws.proofs.Ends.{at_end}
 use Rattle.ak_laws.proofs.Working.{IsBroughtOnce, IsIdle, Working, idle_works, submit_works, arrive_works, renamed_works, of_trace, works_done}

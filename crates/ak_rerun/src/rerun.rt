@@ -1,7 +1,6 @@
 //! A program that is run again over the record of a pool.
 
 ghost use Rattle.std.specs.Prelude.{◌≡◌, ◌≤◌, IfOk, IfErr};
-ghost use Rattle.ak_exec.specs.Built.{AreBuilt};
 ghost use Rattle.ak_history.specs.Legal.{Legal};
 ghost use Rattle.ak_meets.specs.Meets.{Meeting, Meets};
 ghost use Rattle.ak_rerun.specs.Reruns.{IsRerun, DepartsFrom, Tells};
@@ -32,8 +31,8 @@ pub enum RerunRefused {
     NoMemory,
 }
 
-/// Runs a program, whose statements are built, over the record of a pool: a history that is legal for the threads of the
-/// settings. At most `config.limit` jobs of a priority run in a cycle, which is at least 1. There are no askers yet. Own.
+/// Runs a program over the record of a pool: a history that is legal for the threads of the settings. At most
+/// `config.limit` jobs of a priority run in a cycle, which is at least 1. There are no askers yet. Own.
 ///
 /// `Ok` exactly where the run and the record go together to the run's end, want of memory aside: the trace is the machine's
 /// for the replies of the record, and the record holds exactly the calls that the machine makes.
@@ -48,7 +47,6 @@ pub fn rerun(
     config: Config,
     history: History,
 ) -> Result<Replayed, RerunRefused>
-    requires built { AreBuilt program.procs }
     requires limit { 1 ≤ config.limit }
     requires no_askers { config.askers ≡ 0 }
     requires legal { Legal config.threads config.askers history }
@@ -73,7 +71,6 @@ fn run_on<B: Naming>(
       askers = config.askers;
       history = history;
     } }
-    requires built { AreBuilt program.procs }
     requires limit { 1 ≤ config.limit }
     requires no_askers { config.askers ≡ 0 }
     requires legal { Legal config.threads config.askers history }

@@ -274,7 +274,8 @@ pick_mapped : (f : ℕ → ℕ) (p : Alarm → Bool) → ((a : Alarm) → p (ala
     → map (alarm_mapped f) (filter p alarms) ≡ filter p (map (alarm_mapped f) alarms)
 pick_mapped f p e [] = refl
 pick_mapped f p e (a ∷ alarms) =
-    by (p a) (pick_mapped f p e alarms) ∙ ap (λ b. cond b (alarm_mapped f a ∷ filter p (map (alarm_mapped f) alarms)) (filter p (map (alarm_mapped f) alarms))) (sym (e a))
+    by (p a) (pick_mapped f p e alarms)
+    ∙ ap (λ b. cond b (alarm_mapped f a ∷ filter p (map (alarm_mapped f) alarms)) (filter p (map (alarm_mapped f) alarms))) (sym (e a))
   where
     by : (b : Bool) → map (alarm_mapped f) (filter p alarms) ≡ filter p (map (alarm_mapped f) alarms)
         → map (alarm_mapped f) (cond b (a ∷ filter p alarms) (filter p alarms))

@@ -113,7 +113,9 @@ streams_grow program xs ys s f e z =
       monitors = f.monitors;
       purposes = f.purposes;
       clock = f.clock;
+      works = f.works;
       throttles = z;
+      pipes = f.pipes;
     })
 
 pub set_throttle_grows : (program : List NumProc) (t : ℕ) (x : Throttle Body) (s : State) → Fits program s
@@ -147,7 +149,14 @@ pub fresh_grows : (program : List NumProc) (most : ℕ) (stop : Bool) (s : State
 fresh_grows program most stop s f =
     let t : State = with_throttle most stop s
     in let more : More (drawn s) (drawn t) =
-    record { ivars = omega arith; monitors = omega arith; groups = omega arith; parts = λ g. omega arith; throttles = omega (arith, fresh_drawn most stop s) }
+    record {
+      ivars = omega arith;
+      monitors = omega arith;
+      groups = omega arith;
+      parts = λ g. omega arith;
+      throttles = omega (arith, fresh_drawn most stop s);
+      pipes = omega arith;
+    }
     in let g = grown_fits program (drawn s) (drawn t) s more f
     in record {
       more = more;
@@ -159,9 +168,11 @@ fresh_grows program most stop s f =
             monitors = g.monitors;
             purposes = g.purposes;
             clock = g.clock;
+            works = g.works;
             throttles =
                 zip_push (ThrottleFits program (drawn t)) s.throttles s.started (fresh_throttle most stop) [] g.throttles
                 (fresh_fits program (drawn t) most stop);
+            pipes = g.pipes;
           };
     }
 

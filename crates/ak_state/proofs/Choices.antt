@@ -192,6 +192,8 @@ choice_decided_grows program g s f =
       purposes = one.fits.purposes;
       clock = one.fits.clock;
       throttles = one.fits.throttles;
+      pipes = one.fits.pipes;
+      works = one.fits.works;
     })
     in let three = regrouped_grows program (groups.without_notes g v.groups) v (parts_set v.groups g _ refl) two.fits
     in then_grows program s u (choice_decided g s) one (then_grows program u v (choice_decided g s) two three)

@@ -39,15 +39,19 @@ use Rattle.ak_machine.specs.declared.held.Handler.{Handler}
 use Rattle.ak_machine.specs.declared.held.Handler.TheVariants.{OnError, OfGuard, OfBody}
 use Rattle.ak_machine.specs.declared.held.Purpose.{Purpose}
 use Rattle.ak_machine.specs.declared.held.Purpose.TheVariants.{ForGuard, ForAll, ForAny, ForChoice}
+use Rattle.ak_pipe.specs.declared.flush.Flush.{Flush}
+use Rattle.ak_pipe.specs.Pipe as part
 use Rattle.ak_machine.specs.declared.held.Body.{Body}
+use Rattle.ak_machine.specs.declared.held.Read.{Read}
 use Rattle.ak_machine.specs.declared.held.Started.{Started}
+use Rattle.ak_machine.specs.declared.held.Outstanding.{Outstanding}
 use Rattle.ak_machine.specs.State.{State}
 use Rattle.ak_machine.specs.Alarms.{yields_filled, alarm_filled, alarms_filled}
 use Rattle.ak_machine.specs.Cycle.{cycle_begun}
 use Rattle.ak_machine.specs.Deferred.{noting, enqueue, woken_task, with_ivar, woken_by, number_at, fill_empty, fill_at, fill, filled_with, register_at, register, connect_at, connect}
-use Rattle.ak_machine.specs.Mapped.{value_mapped, values_mapped, ret_mapped, frame_mapped, job_mapped, registration_mapped, handler_mapped, handled_mapped, monitor_mapped, purpose_mapped, body_mapped, stage_mapped, mark_mapped, throttle_mapped, started_mapped, all_started_mapped, alarm_mapped, clock_mapped, state_renamed, choosable_mapped}
+use Rattle.ak_machine.specs.Mapped.{value_mapped, values_mapped, ret_mapped, frame_mapped, job_mapped, registration_mapped, handler_mapped, handled_mapped, monitor_mapped, purpose_mapped, body_mapped, stage_mapped, mark_mapped, throttle_mapped, started_mapped, all_started_mapped, alarm_mapped, clock_mapped, state_renamed, choosable_mapped, read_mapped, flush_mapped, pipe_mapped, outstanding_mapped}
 use Rattle.ak_state.specs.Drawn.{Drawn, drawn, More, parts_of}
-use Rattle.ak_state.specs.Fits.{ValueFits, ValsFit, kinds_of, RetFits, CallFits, ValueCallFits, FrameFits, HeldFits, JobFits, HandlerFits, ActFits, ActorFits, MonitorFits, PurposeFits, AlarmFits, ClockFits, BodyFits, StageFits, MarkFits, StartedFits, ThrottleFits, StateFits, Fits, numbers, ChoosableFits}
+use Rattle.ak_state.specs.Fits.{ValueFits, ValsFit, kinds_of, RetFits, CallFits, ValueCallFits, FrameFits, HeldFits, JobFits, HandlerFits, ActFits, ActorFits, MonitorFits, PurposeFits, AlarmFits, ClockFits, BodyFits, StageFits, MarkFits, StartedFits, ThrottleFits, StateFits, Fits, numbers, ChoosableFits, ReadFits, FlushFits, PipeFits, WorkFits}
 use Rattle.ak_state.proofs.Started.{started_so_many, stand_mapped}
 
 -- ---- lists
@@ -116,7 +120,8 @@ zip_long P (x ∷ xs) [] p = absurd p
 
 -- ---- as much is drawn, or more
 pub same_more : (n : Drawn) → More n n
-same_more n = record { ivars = omega arith; monitors = omega arith; groups = omega arith; parts = λ g. omega arith; throttles = omega arith }
+same_more n =
+    record { ivars = omega arith; monitors = omega arith; groups = omega arith; parts = λ g. omega arith; throttles = omega arith; pipes = omega arith }
 
 pub more_more : (n n' n'' : Drawn) → More n n' → More n' n'' → More n n''
 more_more n n' n'' h k = record {
@@ -125,6 +130,7 @@ more_more n n' n'' h k = record {
   groups = omega (arith, h.groups, k.groups);
   parts = λ g. omega (arith, h.parts g, k.parts g);
   throttles = omega (arith, h.throttles, k.throttles);
+  pipes = omega (arith, h.pipes, k.pipes);
 }
 
 -- ---- what fits goes on fitting as more is drawn
@@ -134,15 +140,18 @@ value_grows n n' Ivar (value.Ivar i) h f = omega (arith, h.ivars, f)
 value_grows n n' Def (value.Ivar i) h f = omega (arith, h.ivars, f)
 value_grows n n' Def (value.Def i) h f = omega (arith, h.ivars, f)
 value_grows n n' Mon (value.Mon m) h f = omega (arith, h.monitors, f)
+value_grows n n' Pipe (value.Pipe p) h f = omega (arith, h.pipes, f)
 value_grows n n' Thr (value.Thr t) h f = omega (arith, h.throttles, f)
 value_grows n n' Event (value.Event e) h f = tt
+value_grows n n' Helper (value.Helper x) h f = tt
 value_grows n n' Num v h f = absurd f
 value_grows n n' Ivar v h f = absurd f
 value_grows n n' Def v h f = absurd f
 value_grows n n' Mon v h f = absurd f
+value_grows n n' Pipe v h f = absurd f
 value_grows n n' Thr v h f = absurd f
 value_grows n n' Event v h f = absurd f
-value_grows n n' kind v h f = absurd f
+value_grows n n' Helper v h f = absurd f
 
 pub vals_grow : (n n' : Drawn) (kinds : List Kind) (vals : List Value) → More n n' → ValsFit n kinds vals → ValsFit n' kinds vals
 vals_grow n n' [] [] h f = tt
@@ -263,6 +272,29 @@ throttle_grows program n n' h x started f = record {
   few = omega (arith, h.ivars, f.few);
 }
 
+pub read_grows : (program : List NumProc) (n n' : Drawn) → More n n' → (r : Read) → ReadFits program n r → ReadFits program n' r
+read_grows program n n' h r f = record {
+  context = omega (arith, h.monitors, f.context);
+  item = call_grows (slice_get program r.item.proc) n n' (value.Num (pos 0) ∷ r.item.vals) h f.item;
+  item_to = omega (arith, h.ivars, f.item_to);
+  eof = call_grows (slice_get program r.eof.proc) n n' r.eof.vals h f.eof;
+  eof_to = omega (arith, h.ivars, f.eof_to);
+}
+
+flush_grows : (n n' : Drawn) → More n n' → (x : Flush) → FlushFits n x → FlushFits n' x
+flush_grows n n' h x f = omega (arith, h.ivars, f)
+
+pipe_more : (program : List NumProc) (n n' : Drawn) → More n n' → (x : part.Pipe Read) → PipeFits program n x → PipeFits program n' x
+pipe_more program n n' h x f = record {
+  reads = all_by (ReadFits program n) (ReadFits program n') (read_grows program n n' h) x.reads f.reads;
+  owed = all_by (ReadFits program n) (ReadFits program n') (read_grows program n n' h) x.owed f.owed;
+  pushbacks = all_by (λ i. i < n.ivars) (λ i. i < n'.ivars) (λ i p. below_more n.ivars n'.ivars i h.ivars p) x.pushbacks f.pushbacks;
+  flushes = all_by (FlushFits n) (FlushFits n') (flush_grows n n' h) x.flushes f.flushes;
+}
+
+work_grows : (n n' : Drawn) → More n n' → (work : Outstanding) → WorkFits n work → WorkFits n' work
+work_grows n n' h work f = record { monitor = omega (arith, h.monitors, f.monitor); result = omega (arith, h.ivars, f.result) }
+
 -- ---- and as names change within the range
 value_mapped_fits : (g : ℕ → ℕ) (n : Drawn) → ((i : ℕ) → i < n.ivars → g i < n.ivars) → (kind : Kind) (v : Value) → ValueFits n kind v
     → ValueFits n kind (value_mapped g v)
@@ -271,15 +303,18 @@ value_mapped_fits g n h Ivar (value.Ivar i) f = h i f
 value_mapped_fits g n h Def (value.Ivar i) f = h i f
 value_mapped_fits g n h Def (value.Def i) f = h i f
 value_mapped_fits g n h Mon (value.Mon m) f = f
+value_mapped_fits g n h Pipe (value.Pipe p) f = f
 value_mapped_fits g n h Thr (value.Thr t) f = f
 value_mapped_fits g n h Event (value.Event e) f = tt
+value_mapped_fits g n h Helper (value.Helper x) f = tt
 value_mapped_fits g n h Num v f = absurd f
 value_mapped_fits g n h Ivar v f = absurd f
 value_mapped_fits g n h Def v f = absurd f
 value_mapped_fits g n h Mon v f = absurd f
+value_mapped_fits g n h Pipe v f = absurd f
 value_mapped_fits g n h Thr v f = absurd f
 value_mapped_fits g n h Event v f = absurd f
-value_mapped_fits g n h kind v f = absurd f
+value_mapped_fits g n h Helper v f = absurd f
 
 vals_mapped_fit : (g : ℕ → ℕ) (n : Drawn) → ((i : ℕ) → i < n.ivars → g i < n.ivars) → (kinds : List Kind) (vals : List Value) → ValsFit n kinds vals
     → ValsFit n kinds (values_mapped g vals)
@@ -401,6 +436,25 @@ throttle_fits_mapped program g n h x started f = record {
   few = omega (arith, f.few, length-map x.bodies (stage_mapped g));
 }
 
+read_fits_mapped : (program : List NumProc) (g : ℕ → ℕ) (n : Drawn) → ((i : ℕ) → i < n.ivars → g i < n.ivars) → (r : Read) → ReadFits program n r
+    → ReadFits program n (read_mapped g r)
+read_fits_mapped program g n h r f = record {
+  context = f.context;
+  item = call_mapped_fits (slice_get program r.item.proc) g n h (value.Num (pos 0) ∷ r.item.vals) f.item;
+  item_to = h r.item.to f.item_to;
+  eof = call_mapped_fits (slice_get program r.eof.proc) g n h r.eof.vals f.eof;
+  eof_to = h r.eof.to f.eof_to;
+}
+
+pipe_fits_mapped : (program : List NumProc) (g : ℕ → ℕ) (n : Drawn) → ((i : ℕ) → i < n.ivars → g i < n.ivars) → (x : part.Pipe Read)
+    → PipeFits program n x → PipeFits program n (pipe_mapped g x)
+pipe_fits_mapped program g n h x f = record {
+  reads = all_map (ReadFits program n) (ReadFits program n) (read_mapped g) (read_fits_mapped program g n h) x.reads f.reads;
+  owed = all_map (ReadFits program n) (ReadFits program n) (read_mapped g) (read_fits_mapped program g n h) x.owed f.owed;
+  pushbacks = all_map (λ i. i < n.ivars) (λ i. i < n.ivars) g h x.pushbacks f.pushbacks;
+  flushes = all_map (FlushFits n) (FlushFits n) (flush_mapped g) (λ flush p. h flush.ivar p) x.flushes f.flushes;
+}
+
 -- ---- the changes of a state
 pub grown_fits : (program : List NumProc) (n n' : Drawn) (s : State) → More n n' → StateFits program n s → StateFits program n' s
 grown_fits program n n' s h f = record {
@@ -411,6 +465,8 @@ grown_fits program n n' s h f = record {
   purposes = zip_by (PurposeFits program n) (PurposeFits program n') (purpose_grows program n n' h) (parts_of s.groups) s.purposes f.purposes;
   clock = clock_grows n n' h s.clock f.clock;
   throttles = zip_by (ThrottleFits program n) (ThrottleFits program n') (throttle_grows program n n' h) s.throttles s.started f.throttles;
+  pipes = all_by (PipeFits program n) (PipeFits program n') (pipe_more program n n' h) s.pipes f.pipes;
+  works = all_by (WorkFits n) (WorkFits n') (work_grows n n' h) s.works f.works;
 }
 
 job_pushed : (program : List NumProc) (n : Drawn) (b : Bool) (job : Job Task) (q : Queues Task) (s : State)
@@ -427,6 +483,8 @@ job_pushed program n true job q s f p e = record {
   purposes = f.purposes;
   clock = f.clock;
   throttles = f.throttles;
+  pipes = f.pipes;
+  works = f.works;
 }
 job_pushed program n false job q s f p e = record {
   handlers = f.handlers;
@@ -436,6 +494,8 @@ job_pushed program n false job q s f p e = record {
   purposes = f.purposes;
   clock = f.clock;
   throttles = f.throttles;
+  pipes = f.pipes;
+  works = f.works;
 }
 
 enqueue_fits : (program : List NumProc) (n : Drawn) (ctx : Ctx) (task : Task) (s : State) → StateFits program n s → HeldFits program n ctx task.frame
@@ -456,6 +516,8 @@ register_at_fits program n None i ctx frame s f p =
       purposes = f.purposes;
       clock = f.clock;
       throttles = f.throttles;
+      pipes = f.pipes;
+      works = f.works;
     }
 
 woken_fits : (program : List NumProc) (n : Drawn) (v : ℤ) (gs : List (Registration Frame)) (s : State) → StateFits program n s
@@ -474,6 +536,8 @@ fill_empty_fits program n i v s f =
       purposes = f.purposes;
       clock = f.clock;
       throttles = f.throttles;
+      pipes = f.pipes;
+      works = f.works;
     })
     (all_filter (HandlerFits program n) (is_on i) s.cells.registrations f.handlers)
 
@@ -506,6 +570,10 @@ renamed_fits program n from to s h f =
       throttles =
           zip_map (ThrottleFits program n) (ThrottleFits program n) (throttle_mapped g) (all_started_mapped g) (throttle_fits_mapped program g n p)
           s.throttles s.started f.throttles;
+      pipes = all_map (PipeFits program n) (PipeFits program n) (pipe_mapped g) (pipe_fits_mapped program g n p) s.pipes f.pipes;
+      works =
+          all_map (WorkFits n) (WorkFits n) (outstanding_mapped g)
+          (λ work k. record { monitor = k.monitor; result = p work.to k.result }) s.works f.works;
     }
 
 connect_at_fits : (program : List NumProc) (n : Drawn) (b : Bool) (o p : Option ℤ) (result right : ℕ) (s : State) → result < n.ivars
@@ -541,9 +609,15 @@ connect_at_drawn true o p result right s = refl
 connect_at_drawn false (Some w) p result right s = refl
 connect_at_drawn false None (Some v) result right s = fill_at_drawn (number_at result s) result v s
 connect_at_drawn false None None result right s =
-    ap (λ k. record (drawn s) { monitors = k; throttles = length (map (throttle_mapped (renamed right result)) s.throttles) })
+    ap (λ k. record (drawn s) {
+      monitors = k;
+      throttles = length (map (throttle_mapped (renamed right result)) s.throttles);
+      pipes = length (map (pipe_mapped (renamed right result)) s.pipes);
+    })
     (length-map s.monitors (monitor_mapped (renamed right result)))
-    ∙ ap (λ k. record (drawn s) { throttles = k }) (length-map s.throttles (throttle_mapped (renamed right result)))
+    ∙ ap (λ k. record (drawn s) { throttles = k; pipes = length (map (pipe_mapped (renamed right result)) s.pipes) })
+    (length-map s.throttles (throttle_mapped (renamed right result)))
+    ∙ ap (λ k. record (drawn s) { pipes = k }) (length-map s.pipes (pipe_mapped (renamed right result)))
 
 -- ---- a change: nothing is gone, and all fits
 pub record Grows (program : List NumProc) (s s' : State) : Type 0 where
@@ -590,6 +664,7 @@ ivar_grows program s f =
       groups = omega arith;
       parts = λ g. omega arith;
       throttles = omega arith;
+      pipes = omega arith;
     }
     in record { more = more; fits = grown_fits program (drawn s) (drawn (with_ivar s)) s more f }
 
@@ -626,6 +701,8 @@ clock_set_grows program c s f p = record {
         purposes = f.purposes;
         clock = p;
         throttles = f.throttles;
+        pipes = f.pipes;
+        works = f.works;
       };
 }
 

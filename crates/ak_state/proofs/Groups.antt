@@ -105,6 +105,7 @@ group_more parts purpose s = record {
   parts = λ g. subst (λ ks. slice_index_or (parts_of s.groups) g 0 ≤ slice_index_or ks g 0) (sym (parts_begun parts s.groups))
       (parts_more (parts_of s.groups) parts g);
   throttles = omega arith;
+  pipes = omega arith;
 }
 
 pub group_grows : (program : List NumProc) (parts : ℕ) (purpose : Purpose) (s : State) → Fits program s
@@ -125,6 +126,8 @@ group_grows program parts purpose s f p =
                 (zip_push (PurposeFits program (drawn t)) (parts_of s.groups) s.purposes parts purpose g.purposes p);
             clock = g.clock;
             throttles = g.throttles;
+            pipes = g.pipes;
+            works = g.works;
           };
     }
 
@@ -147,6 +150,8 @@ regrouped_grows program gs s e f =
       purposes = subst (λ ks. AllZip (PurposeFits program (drawn s)) ks s.purposes) (sym e) f.purposes;
       clock = f.clock;
       throttles = f.throttles;
+      pipes = f.pipes;
+      works = f.works;
     })
 
 pub decided_grows : (program : List NumProc) (g : ℕ) (s : State) → Fits program s → Grows program s (decided g s)

@@ -9,5 +9,9 @@ pub mod Choices
 pub mod Throttles
 pub mod Bodies
 pub mod Ends
+pub mod Pipes
+pub mod Streams
 pub mod Errors
 pub mod Alarms
+pub mod Works
+mod Kept

@@ -143,7 +143,14 @@ child_drawn parent s = length-append s.monitors (fresh_monitor parent ∷ [])
 pub child_grows : (program : List NumProc) (parent : ℕ) (s : State) → Fits program s → Grows program s (with_monitor parent s)
 child_grows program parent s f =
     let more : More (drawn s) (drawn (with_monitor parent s)) =
-    record { ivars = omega arith; monitors = omega (arith, child_drawn parent s); groups = omega arith; parts = λ g. omega arith; throttles = omega arith }
+    record {
+      ivars = omega arith;
+      monitors = omega (arith, child_drawn parent s);
+      groups = omega arith;
+      parts = λ g. omega arith;
+      throttles = omega arith;
+      pipes = omega arith;
+    }
     in let g = grown_fits program (drawn s) (drawn (with_monitor parent s)) s more f
     in record {
       more = more;
@@ -157,6 +164,8 @@ child_grows program parent s f =
             purposes = g.purposes;
             clock = g.clock;
             throttles = g.throttles;
+            pipes = g.pipes;
+            works = g.works;
           };
     }
 
@@ -173,6 +182,8 @@ set_grows program m x s f p =
       purposes = f.purposes;
       clock = f.clock;
       throttles = f.throttles;
+      pipes = f.pipes;
+      works = f.works;
     })
 
 pub detach_grows : (program : List NumProc) (m : ℕ) (s : State) → Fits program s → Grows program s (detach m s)

@@ -32,7 +32,7 @@ use Rattle.ak_state.specs.Bodies.{stepped, placed_mapped, front_mapped, undecide
 use Rattle.ak_state.proofs.Stands.{seen_as}
 
 -- ---- lists that are mapped, and tests that a map keeps
-filter_mapped : {A B : Type 0} (g : A → B) (p : B → Bool) (q : A → Bool) → ((x : A) → p (g x) ≡ q x) → (xs : List A)
+pub filter_mapped : {A B : Type 0} (g : A → B) (p : B → Bool) (q : A → Bool) → ((x : A) → p (g x) ≡ q x) → (xs : List A)
     → filter p (map g xs) ≡ map g (filter q xs)
 filter_mapped g p q e [] = refl
 filter_mapped g p q e (x ∷ xs) =
@@ -43,7 +43,7 @@ filter_mapped g p q e (x ∷ xs) =
     by true r = ap (λ ys. g x ∷ ys) r
     by false r = r
 
-first_without : {A B : Type 0} (g : A → B) (p : B → Bool) (q : A → Bool) → ((x : A) → p (g x) ≡ q x) → (xs : List A)
+pub first_without : {A B : Type 0} (g : A → B) (p : B → Bool) (q : A → Bool) → ((x : A) → p (g x) ≡ q x) → (xs : List A)
     → map g (without_first q xs) ≡ without_first p (map g xs)
 first_without g p q e [] = refl
 first_without g p q e (x ∷ xs) =
@@ -79,7 +79,7 @@ pub front_of_map : {A B : Type 0} (g : A → B) (xs : List A) → option_map g (
 front_of_map g [] = refl
 front_of_map g (x ∷ xs) = refl
 
-rest_of_map : {A B : Type 0} (g : A → B) (xs : List A) → map g (rest_of xs) ≡ rest_of (map g xs)
+pub rest_of_map : {A B : Type 0} (g : A → B) (xs : List A) → map g (rest_of xs) ≡ rest_of (map g xs)
 rest_of_map g [] = refl
 rest_of_map g (x ∷ xs) = refl
 

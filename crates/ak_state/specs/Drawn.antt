@@ -10,6 +10,7 @@ pub record Drawn : Type 0 where
   -- of each group, how many parts it has
   pub parts : List ℕ
   pub throttles : ℕ
+  pub pipes : ℕ
 
 -- how many parts each group has
 abbrev pub parts_of : List Group → List ℕ
@@ -28,6 +29,7 @@ drawn s =
       groups = length s.groups;
       parts = parts_of s.groups;
       throttles = length s.throttles;
+      pipes = length s.pipes;
     }
 
 -- as much, or more, of each sort
@@ -37,3 +39,4 @@ pub record More (n n' : Drawn) : Type 0 where
   pub groups : n.groups ≤ n'.groups
   pub parts : (g : ℕ) → parts_at g n ≤ parts_at g n'
   pub throttles : n.throttles ≤ n'.throttles
+  pub pipes : n.pipes ≤ n'.pipes

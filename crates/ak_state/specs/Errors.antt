@@ -1,14 +1,16 @@
 -- What comes of an error, step by step.
-use Rattle.std.specs.Prelude.{ℕ, ℤ, ◌≡◌, ◌<◌, List, Option, Some, None, fold, length, slice_get}
+use Rattle.std.specs.Prelude.{ℕ, ℤ, ◌≡◌, ◌<◌, List, [], ◌∷◌, ◌++◌, Option, Some, None, fold, length, slice_get}
 use Rattle.std.specs.List.{AllByRecursion}
 use Rattle.ak_base.specs.declared.number.Ctx.{Ctx}
 use Rattle.ak_trace.specs.declared.entry.Entry.{Entry}
+use Rattle.ak_trace.specs.declared.entry.Entry.TheVariants as entry
+use Rattle.ak_trace.specs.declared.entry.Ending.TheVariants as ending
 use Rattle.ak_monitor.specs.Monitors.{monitor_in, path, up_to}
 use Rattle.ak_machine.specs.declared.flow.Flow.{Flow}
 use Rattle.ak_machine.specs.declared.flow.Flow.TheVariants.{On, Stopped, Unhandled}
 use Rattle.ak_machine.specs.declared.held.Handler.{Handler}
 use Rattle.ak_machine.specs.State.{State}
-use Rattle.ak_machine.specs.Status.{Well, ByError, status_of}
+use Rattle.ak_machine.specs.Status.{ByError, status_of}
 use Rattle.ak_machine.specs.Deferred.{enqueue, filled_with}
 use Rattle.ak_machine.specs.Groups.{guard_acts}
 use Rattle.ak_machine.specs.Throttles.{body_acts}
@@ -63,5 +65,5 @@ after_is flow s = record { state = s; flow = flow }
 -- what the last entries of a trace say, where the run doesn't go on
 abbrev pub Ends : Flow → List Entry → Type 0
 Ends On trace = Unit {0}
-Ends Stopped trace = status_of trace ≡ Well
+Ends Stopped trace = (before : List Entry) × (trace ≡ before ++ entry.End ending.Stopped ∷ [])
 Ends (Unhandled num) trace = status_of trace ≡ ByError num

@@ -12,7 +12,7 @@ use Rattle.ak_frames.specs.declared.frame.Frame.{Frame}
 use Rattle.ak_frames.specs.declared.frame.Frame.TheVariants.{Call, OnValue, TryDone, BodyDone, BodyFailed, Raise, AllPart, ChoicePart}
 use Rattle.ak_frames.specs.declared.frame.Task.{Task}
 use Rattle.ak_script.specs.declared.script.Kind.{Kind}
-use Rattle.ak_script.specs.declared.script.Kind.TheVariants.{Num, Ivar, Def, Mon, Thr, Event}
+use Rattle.ak_script.specs.declared.script.Kind.TheVariants.{Num, Ivar, Def, Mon, Pipe, Thr, Event, Helper}
 use Rattle.ak_program.specs.declared.program.NumParam.{NumParam}
 use Rattle.ak_program.specs.declared.program.NumProc.{NumProc}
 use Rattle.ak_monitor.specs.Monitors.{Monitor}
@@ -31,10 +31,14 @@ use Rattle.ak_machine.specs.declared.held.Handler.{Handler}
 use Rattle.ak_machine.specs.declared.held.Handler.TheVariants.{OnError, OfGuard, OfBody}
 use Rattle.ak_machine.specs.declared.held.Purpose.{Purpose}
 use Rattle.ak_machine.specs.declared.held.Purpose.TheVariants.{ForGuard, ForAll, ForAny, ForChoice}
+use Rattle.ak_pipe.specs.declared.flush.Flush.{Flush}
+use Rattle.ak_pipe.specs.Pipe as part
 use Rattle.ak_machine.specs.declared.held.Body.{Body}
 use Rattle.ak_machine.specs.declared.held.Fate.{Fate}
 use Rattle.ak_machine.specs.declared.held.Fate.TheVariants.{Undecided, Failing, Over}
 use Rattle.ak_machine.specs.declared.held.Started.{Started}
+use Rattle.ak_machine.specs.declared.held.Read.{Read}
+use Rattle.ak_machine.specs.declared.held.Outstanding.{Outstanding}
 use Rattle.ak_machine.specs.State.{State}
 use Rattle.ak_state.specs.Drawn.{Drawn, drawn, parts_of, parts_at}
 
@@ -45,8 +49,10 @@ ValueFits n Ivar (value.Ivar i) = i < n.ivars
 ValueFits n Def (value.Ivar i) = i < n.ivars
 ValueFits n Def (value.Def i) = i < n.ivars
 ValueFits n Mon (value.Mon m) = m < n.monitors
+ValueFits n Pipe (value.Pipe p) = p < n.pipes
 ValueFits n Thr (value.Thr t) = t < n.throttles
 ValueFits n Event (value.Event e) = Unit {0}
+ValueFits n Helper (value.Helper h) = Unit {0}
 ValueFits n other v = ⊥
 
 -- each value is of its kind
@@ -198,10 +204,35 @@ pub record ThrottleFits (program : List NumProc) (n : Drawn) (t : Throttle Body)
   pub stand : StandAt started t.bodies
   pub few : length t.bodies ≤ n.ivars
 
+-- a read that waits or is owed the end: its context, both calls and their results
+pub record ReadFits (program : List NumProc) (n : Drawn) (read : Read) : Type 0 where
+  pub context : read.ctx.mon < n.monitors
+  pub item : ValueCallFits program n read.item.proc read.item.vals
+  pub item_to : read.item.to < n.ivars
+  pub eof : CallFits program n read.eof.proc read.eof.vals
+  pub eof_to : read.eof.to < n.ivars
+
+-- the deferred of a flush was drawn
+abbrev pub FlushFits : Drawn → Flush → Type 0
+FlushFits n flush = flush.ivar < n.ivars
+
+-- what waits for a pipe
+pub record PipeFits (program : List NumProc) (n : Drawn) (p : part.Pipe Read) : Type 0 where
+  pub reads : AllByRecursion (ReadFits program n) p.reads
+  pub owed : AllByRecursion (ReadFits program n) p.owed
+  pub pushbacks : AllByRecursion (λ i. i < n.ivars) p.pushbacks
+  pub flushes : AllByRecursion (FlushFits n) p.flushes
+
+-- a work that is out: its deferred was drawn, and the monitor of its context is there
+pub record WorkFits (n : Drawn) (work : Outstanding) : Type 0 where
+  pub monitor : work.ctx.mon < n.monitors
+  pub result : work.to < n.ivars
+
 -- all that a state holds, list by list; each group has its purpose, and each throttle its bodies
 pub record ListsFit (program : List NumProc) (n : Drawn) (of_registrations : List (Registration Frame))
     (of_normal of_low : List (Job Task)) (of_monitors : List (Monitor Handler)) (of_purposes : List Purpose) (of_parts : List ℕ)
-    (of_clock : Clock) (of_throttles : List (Throttle Body)) (of_started : List (List Started)) : Type 0 where
+    (of_clock : Clock) (of_throttles : List (Throttle Body)) (of_started : List (List Started))
+    (of_pipes : List (part.Pipe Read)) (of_works : List Outstanding) : Type 0 where
   pub handlers : AllByRecursion (HandlerFits program n) of_registrations
   pub normal : AllByRecursion (JobFits program n) of_normal
   pub low : AllByRecursion (JobFits program n) of_low
@@ -209,11 +240,13 @@ pub record ListsFit (program : List NumProc) (n : Drawn) (of_registrations : Lis
   pub purposes : AllZip (PurposeFits program n) of_parts of_purposes
   pub clock : ClockFits n of_clock
   pub throttles : AllZip (ThrottleFits program n) of_throttles of_started
+  pub pipes : AllByRecursion (PipeFits program n) of_pipes
+  pub works : AllByRecursion (WorkFits n) of_works
 
 abbrev pub StateFits : List NumProc → Drawn → State → Type 0
 StateFits program n s =
     ListsFit program n s.cells.registrations s.queues.normal s.queues.low s.monitors s.purposes (parts_of s.groups) s.clock s.throttles
-    s.started
+    s.started s.pipes s.works
 
 -- all of a state fits a program
 abbrev pub Fits : List NumProc → State → Type 0

@@ -7,3 +7,7 @@ pub mod Groups
 pub mod Errors
 pub mod Alarms
 pub mod Bodies
+pub mod Streams
+pub mod Helpers
+pub mod Works
+pub mod Arrivals

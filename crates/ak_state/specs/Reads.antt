@@ -92,6 +92,28 @@ IsMon (Thr t) = ⊥
 IsMon (Event e) = ⊥
 IsMon (Helper h) = ⊥
 
+-- a pipe of the first n
+abbrev pub IsPipe : ℕ → Value → Type 0
+IsPipe n (Num z) = ⊥
+IsPipe n (Ivar i) = ⊥
+IsPipe n (Def i) = ⊥
+IsPipe n (Mon m) = ⊥
+IsPipe n (Pipe p) = p < n
+IsPipe n (Thr t) = ⊥
+IsPipe n (Event e) = ⊥
+IsPipe n (Helper h) = ⊥
+
+-- a pipe
+abbrev pub IsPipeName : Value → Type 0
+IsPipeName (Num z) = ⊥
+IsPipeName (Ivar i) = ⊥
+IsPipeName (Def i) = ⊥
+IsPipeName (Mon m) = ⊥
+IsPipeName (Pipe p) = Unit {0}
+IsPipeName (Thr t) = ⊥
+IsPipeName (Event e) = ⊥
+IsPipeName (Helper h) = ⊥
+
 -- a throttle of the first n
 abbrev pub IsThrottle : ℕ → Value → Type 0
 IsThrottle n (Num z) = ⊥
@@ -125,6 +147,17 @@ IsEvent (Thr t) = ⊥
 IsEvent (Event e) = Unit {0}
 IsEvent (Helper h) = ⊥
 
+-- a helper
+abbrev pub IsHelper : Value → Type 0
+IsHelper (Num z) = ⊥
+IsHelper (Ivar i) = ⊥
+IsHelper (Def i) = ⊥
+IsHelper (Mon m) = ⊥
+IsHelper (Pipe p) = ⊥
+IsHelper (Thr t) = ⊥
+IsHelper (Event e) = ⊥
+IsHelper (Helper h) = Unit {0}
+
 -- a number of 64 bits, or one of the first n locals
 abbrev pub IsBound : ℕ → NumAtom → Type 0
 IsBound n (Literal z) = Unit {0}
@@ -148,6 +181,10 @@ AreChoicesAt s vals choices = All (λ (choice : NumChoice). IsDeferredAt s vals 
 abbrev pub IsMonitorAt : State → List Value → ℕ → Type 0
 IsMonitorAt s vals k = IsMonitor (length s.monitors) (local vals k)
 
+-- a pipe that a local names
+abbrev pub IsPipeAt : State → List Value → ℕ → Type 0
+IsPipeAt s vals k = IsPipe (length s.pipes) (local vals k)
+
 -- a throttle that a local names
 abbrev pub IsThrottleAt : State → List Value → ℕ → Type 0
 IsThrottleAt s vals k = IsThrottle (length s.throttles) (local vals k)
@@ -155,6 +192,10 @@ IsThrottleAt s vals k = IsThrottle (length s.throttles) (local vals k)
 -- an alarm that a local names
 abbrev pub IsEventAt : List Value → ℕ → Type 0
 IsEventAt vals k = (k < length vals) × IsEvent (local vals k)
+
+-- a helper that a local names
+abbrev pub IsHelperAt : List Value → ℕ → Type 0
+IsHelperAt vals k = (k < length vals) × IsHelper (local vals k)
 
 abbrev pub AreBound : List Value → List NumAtom → Type 0
 AreBound vals args = All (IsBound (length vals)) args

@@ -13,6 +13,7 @@ use Rattle.ak_streams.specs.Throttles.{no_throttling}
 use Rattle.ak_machine.specs.State.{State, initial_state}
 use Rattle.ak_machine.specs.Deferred.{enqueue, woken_task}
 use Rattle.ak_machine.specs.Mapped.{state_named}
+use Rattle.ak_state.specs.Works.{no_works}
 use Rattle.ak_state.specs.declared.lists.Lists.{Lists}
 
 -- the state, and the surviving name of each number
@@ -28,7 +29,10 @@ no_lists askers =
       groups = [];
       purposes = [];
       throttles = no_throttling;
+      pipes = [];
       clock = clock_at_zero;
+      works = no_works;
+      helpers = [];
       left = askers;
     }
 
@@ -41,7 +45,11 @@ other_lists lists =
       purposes = lists.purposes;
       throttles = lists.throttles.throttles;
       started = lists.throttles.started;
+      pipes = lists.pipes;
       clock = lists.clock;
+      works = lists.works.out;
+      next_work = lists.works.next;
+      helpers = lists.helpers;
     }
 
 -- the parts, with the numbers that they were given, beside the other lists

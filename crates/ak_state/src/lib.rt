@@ -2,6 +2,8 @@
 #![tactic(auto)]
 
 mod cells;
+mod helpers;
 mod lists;
 mod local;
+mod outstanding;
 pub mod parts;

@@ -3,23 +3,29 @@
 ghost use Rattle.std.specs.Prelude.{◌≡◌, IfOk};
 ghost use Rattle.ak_state.specs.Seen.{no_lists};
 
+use crate::helpers::Helpers;
+use crate::outstanding::Works;
 use ak_base::list::{Items, NoMemory};
 use ak_choice::groups::Groups;
 use ak_clock::clock::Clock;
 use ak_machine::held::{Handler, Purpose};
 use ak_monitor::tree::Tree;
+use ak_streams::pipes::Pipes;
 use ak_streams::throttles::Throttles;
 use std::alloc::Global;
 
-/// What waits for errors, for decisions, for bodies and for a time, with the numbers that it was given; and how many askers are
-/// left. Own.
+/// What waits for errors, for decisions, for bodies, for numbers and for a time, with the numbers that it was given; the works and
+/// the helpers; and how many askers are left. Own.
 #[derive(Debug, Drop)]
 pub struct Lists {
     pub monitors: Tree<Handler>,
     pub groups: Groups,
     pub purposes: Items<Purpose>,
     pub throttles: Throttles,
+    pub pipes: Pipes,
     pub clock: Clock,
+    pub works: Works,
+    pub helpers: Helpers,
     pub left: u32,
 }
 
@@ -33,7 +39,10 @@ impl Lists {
             groups: Groups::make(alloc),
             purposes: Items::make(alloc),
             throttles: Throttles::make(alloc),
+            pipes: Pipes::make(alloc),
             clock: Clock::make(alloc),
+            works: Works::make(alloc),
+            helpers: Helpers::make(alloc),
             left: askers,
         })
     }
@@ -46,7 +55,10 @@ impl Lists {
         self.groups = Groups::make(alloc);
         self.purposes = Items::make(alloc);
         self.throttles = Throttles::make(alloc);
+        self.pipes = Pipes::make(alloc);
         self.clock = Clock::make(alloc);
+        self.works = Works::make(alloc);
+        self.helpers = Helpers::make(alloc);
         self.left = askers;
     }
 }

@@ -2,10 +2,10 @@
 
 ghost use Rattle.std.specs.Prelude.{◌≡◌, ◌∷◌, ◌<◌, length, IfOk};
 ghost use Rattle.ak_machine.specs.Effect.{local, number_of, name_of};
-ghost use Rattle.ak_state.specs.Reads.{IsNum, IsName, IsMon, IsThr, IsEvent};
+ghost use Rattle.ak_state.specs.Reads.{IsNum, IsName, IsMon, IsPipeName, IsThr, IsEvent, IsHelper};
 
 use ak_base::list::{Items, NoMemory};
-use ak_base::number::{EventNo, IvarNo, MonNo, Num, ThrottleNo};
+use ak_base::number::{EventNo, HelperNo, IvarNo, MonNo, Num, PipeNo, ThrottleNo};
 use ak_frames::value::{Vals, Value};
 use std::alloc::Global;
 
@@ -54,6 +54,17 @@ pub fn mon_of(value: Value) -> MonNo
     }
 }
 
+/// The pipe that a value names.
+pub fn pipe_of(value: Value) -> PipeNo
+    requires { IsPipeName value }
+    ensures { result ≡ name_of value }
+{
+    match value {
+        Value::Pipe(p) => p,
+        _ => unreachable!(),
+    }
+}
+
 /// The throttle that a value names.
 pub fn thr_of(value: Value) -> ThrottleNo
     requires { IsThr value }
@@ -76,6 +87,17 @@ pub fn event_of(value: Value) -> EventNo
     }
 }
 
+/// The helper that a value names.
+pub fn helper_of(value: Value) -> HelperNo
+    requires { IsHelper value }
+    ensures { result ≡ name_of value }
+{
+    match value {
+        Value::Helper(helper) => helper,
+        _ => unreachable!(),
+    }
+}
+
 /// Values with a number put before them.
 pub fn numbered(alloc: Global, num: Num, vals: &Vals) -> Result<Vals, NoMemory>
     ensures { IfOk result (λ all. all ≡ Value.Num num ∷ vals.now) }
@@ -83,5 +105,14 @@ pub fn numbered(alloc: Global, num: Num, vals: &Vals) -> Result<Vals, NoMemory>
     let mut all = Vec::with_capacity(alloc, vals.len() + 1)?;
     all.push(Value::Num(num))?;
     all.extend_from_slice(vals.as_slice())?;
+    Ok(Items::from_vec(all))
+}
+
+/// Values with a number put before them, where there is room for one more.
+pub fn put_first(num: Num, vals: Vals) -> Result<Vals, NoMemory>
+    ensures { IfOk result (λ all. all ≡ Value.Num num ∷ vals) }
+{
+    let mut all = vals.into_vec();
+    all.insert(0, Value::Num(num))?;
     Ok(Items::from_vec(all))
 }

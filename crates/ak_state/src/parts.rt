@@ -8,7 +8,9 @@ mod effect;
 mod errors;
 mod groups;
 mod monitors;
+mod pipes;
 mod throttles;
+mod works;
 
 ghost use Rattle.std.specs.Prelude.{◌≡◌, ◌≤◌, [], IfOk, OnOk, OnErr};
 ghost use Rattle.ak_machine.specs.State.{initial_state};

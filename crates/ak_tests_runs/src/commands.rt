@@ -16,12 +16,17 @@ const SCRIPT: &str = "proc main; print 7; end";
 
 const OUTPUT: &str = "enq 0 normal; cycle; job 0; print 7; end idle; %pool; idle 2; close";
 
-fn word(alloc: Global, text: &str) -> Result<Word, NoMemory> {
-    Ok(Items::from_vec(Vec::from_slice(alloc, text.as_bytes())?))
+// The words of a command.
+pub fn words_of(alloc: Global, words: &[&str]) -> Result<Vec<Word>, NoMemory> {
+    let mut list = Vec::new(alloc);
+    for text in words {
+        list.push(Items::from_vec(Vec::from_slice(alloc, text.as_bytes())?))?;
+    }
+    Ok(list)
 }
 
 // Lines that are told with `; ` between them; none where nothing is told.
-fn lines(alloc: Global, text: &str) -> Result<Vec<u8>, NoMemory> {
+pub fn lines(alloc: Global, text: &str) -> Result<Vec<u8>, NoMemory> {
     let mut bytes = Vec::new(alloc);
     if text.is_empty() {
         return Ok(bytes);
@@ -41,10 +46,7 @@ fn outcome<R: Threads + Wait + Sync>(
     mut source: MemSource,
     mut sink: MemSink,
 ) -> Result<(Status, Vec<u8>), NoMemory> {
-    let mut list = Vec::new(alloc);
-    for text in words {
-        list.push(word(alloc, text)?)?;
-    }
+    let list = words_of(alloc, words)?;
     let hands = plain_hands(alloc, 32)?;
     let (report, _hands) = top(rt, alloc, list.as_slice(), &mut source, &mut sink, hands);
     let taken = Vec::from_slice(alloc, sink.taken())?;
@@ -52,7 +54,7 @@ fn outcome<R: Threads + Wait + Sync>(
 }
 
 // The same with ample room and no faults.
-fn command_gives<R: Threads + Wait + Sync>(
+pub fn command_gives<R: Threads + Wait + Sync>(
     rt: &R,
     alloc: Global,
     words: &[&str],
@@ -76,7 +78,7 @@ fn faulty_run_gives<R: Threads + Wait + Sync>(
 }
 
 // Whether two statuses are told alike: their messages name each but the call and the event of a departure.
-fn is_alike(alloc: Global, status: &Status, wanted: &Status) -> Result<bool, NoMemory> {
+pub fn is_alike(alloc: Global, status: &Status, wanted: &Status) -> Result<bool, NoMemory> {
     let told = message(alloc, status)?;
     Ok(told.as_slice() == message(alloc, wanted)?.as_slice())
 }
@@ -253,19 +255,12 @@ const RUNS: [Case; 19] = [
     },
 ];
 
-const REFUSALS: [Case; 20] = [
+const REFUSALS: [Case; 18] = [
     Case {
         name: "run: a print of nothing",
         words: &["run"],
         script: "proc main; print; end",
         status: Status::Refused { line: 2, kind: 1 },
-        output: "",
-    },
-    Case {
-        name: "run: a statement that is not built",
-        words: &["run"],
-        script: "proc main; sched A; end; proc A; stop; end",
-        status: Status::Refused { line: 5, kind: 10 },
         output: "",
     },
     Case {
@@ -286,13 +281,6 @@ const REFUSALS: [Case; 20] = [
         name: "check: a script",
         words: &["check"],
         script: SCRIPT,
-        status: Status::Done,
-        output: "valid",
-    },
-    Case {
-        name: "check: a statement that is not built",
-        words: &["check"],
-        script: "proc main; sched A; end; proc A; stop; end",
         status: Status::Done,
         output: "valid",
     },
@@ -519,7 +507,7 @@ fn messages_are_told(rt: HostRuntime) -> Result<(), NoMemory> {
         (Status::Done, ""),
         (Status::Unhandled { num: -3 }, "unhandled error -3"),
         (Status::Usage { place: 1 }, "usage: word 1"),
-        (Status::Refused { line: 0, kind: 10 }, "line 0: Unbuilt"),
+        (Status::Refused { line: 6, kind: 9 }, "line 6: WrongCount"),
         (Status::Refused { line: 0, kind: 5 }, "line 0: NoMain"),
         (Status::ReadFault, "read fault"),
         (Status::WriteFault, "write fault"),

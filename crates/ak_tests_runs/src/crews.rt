@@ -1,10 +1,6 @@
 //! A whole run by a crew.
 
-ghost use Rattle.std.specs.Prelude.{IfSome};
-ghost use Rattle.ak_exec.specs.Built.{AreBuilt};
-
 use ak_crew::crew::crew;
-use ak_exec::built::first_unbuilt;
 use ak_labor::config::Config;
 use ak_labor::labor::plain_hands;
 use ak_program::program::Program;
@@ -13,20 +9,12 @@ use ak_valid::validate::validate;
 use std::alloc::Global;
 use std::test::*;
 
-// The program of a script, where it has no fault and is built.
-fn program_of(alloc: Global, script: &[u8]) -> Option<Program>
-    ensures { IfSome result (λ program. AreBuilt program.procs) }
-{
+// The program of a script, where it has no fault.
+fn program_of(alloc: Global, script: &[u8]) -> Option<Program> {
     let Ok(script) = parse(alloc, script) else {
         return None;
     };
-    let Ok(program) = validate(alloc, script) else {
-        return None;
-    };
-    match first_unbuilt(&program) {
-        None => Some(program),
-        Some(_) => None,
-    }
+    validate(alloc, script).ok()
 }
 
 #[test]

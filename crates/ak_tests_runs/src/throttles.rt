@@ -4,7 +4,21 @@ use crate::commands::{Case, first_wrong};
 use ak_base::list::NoMemory;
 use ak_top::status::Status;
 
-const RUNS: [Case; 9] = [
+const RUNS: [Case; 11] = [
+    Case {
+        name: "a failure that stops a throttle of two",
+        words: &["run"],
+        script: "proc main; throttle t 2 stop; monitor m; detach m; onerror m H; within m E t; end; proc E t:thr; enqueue a t X; enqueue b t Y; enqueue c t Y; enqueue d t Y; upon b O; yield y; upon y Z t; end; proc X; raise 9; end; proc Y; yield y; ret y; end; proc Z v:num t:thr; enqueue a t Y; end; proc H e:num; print e; end; proc O v:num; print v; end",
+        status: Status::Done,
+        output: "enq 0 normal; cycle; job 0; monitor 1 0; detach 1; enq 1 normal; job 1; monitor 2 1; detach 2; enq 2 normal; monitor 3 1; detach 3; enq 3 normal; job 2; error 9 2; caught 2; enq 4 normal; job 3; job 4; enq 5 normal; enq 6 normal; error 9 1; caught 1; enq 7 normal; job 5; error -6 1; caught 1; enq 8 normal; job 6; error -6 1; caught 1; enq 9 normal; job 7; print 9; job 8; print -6; job 9; print -6; cycle; fill 4 0; enq 10 normal; fill 5 0; enq 11 normal; job 10; error -5 1; caught 1; enq 12 normal; job 11; fill 1 0; enq 13 normal; job 12; print -5; job 13; print 0; end idle; %pool; idle 16; close",
+    },
+    Case {
+        name: "two bodies, one after the other, and a deferred for their end",
+        words: &["run"],
+        script: "proc main; throttle t 1 go; enqueue a t B; enqueue b t B; tdone d t; upon d O; end; proc B; print 1; ret 2; end; proc O v:num; print v; end",
+        status: Status::Done,
+        output: "enq 0 normal; cycle; job 0; monitor 1 0; detach 1; enq 1 normal; job 1; print 1; fill 0 2; monitor 2 0; detach 2; enq 2 normal; job 2; print 1; fill 1 2; fill 2 0; enq 3 normal; job 3; print 0; end idle; %pool; idle 5; close",
+    },
     Case {
         name: "a body for a dead throttle, and one between an error and its failing job",
         words: &["run"],

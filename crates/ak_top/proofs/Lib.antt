@@ -1,3 +1,4 @@
+mod Again
 mod Headlines
 mod Hands
 mod Loading

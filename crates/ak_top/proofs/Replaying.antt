@@ -9,13 +9,11 @@ use Rattle.ak_history.specs.Legal.{Legal}
 use Rattle.ak_script.specs.declared.script.Proc.{Proc}
 use Rattle.ak_program.specs.Programs.{NumProgram}
 use Rattle.ak_labor.specs.declared.config.Config.{Config}
-use Rattle.ak_exec.specs.Built.{AreBuilt}
 use Rattle.ak_machine.specs.Run.{run_of}
 use Rattle.ak_machine.specs.Status.{Stat, Well, ByError, AtJobLimit, Unfinished, status_of}
 use Rattle.ak_machine.specs.Status as stat
 use Rattle.ak_meets.specs.Meets.{Meeting, Yes, Meets}
 use Rattle.ak_meets.specs.Meets as meeting
-use Rattle.ak_words.specs.declared.command.Command.TheVariants.{Run, Replay}
 use Rattle.ak_record.specs.declared.cut.Cut.{Cut}
 use Rattle.ak_record.specs.declared.record.RecordRefused.{RecordRefused}
 use Rattle.ak_record.specs.declared.record.RecordRefused.TheVariants as refused
@@ -35,68 +33,61 @@ use Rattle.ak_top.specs.declared.stop.Stop.{Stop}
 use Rattle.ak_top.specs.declared.stop.Stop.TheVariants as stop
 use Rattle.ak_top.specs.Headline.{IsScript, RunsTo, program_of}
 use Rattle.ak_top.specs.Reading.{Had, Began, WasReadTo}
-use Rattle.ak_top.specs.Refusals.{FaultFor}
-use Rattle.ak_top.specs.Replays.{source_limit, CanRun, Outcome, Refuses, Spoils, Goes, IsSpoilt, DoMeet, GivesCut, GivesUncut, IsTooLong, FromCut, FromUncut, Gives, GivesFrom, GivesTold, RunsOver, ReplaysTo, IsReplay, HasCause, Tells, ReportsReplay, IsStop, AnswerTells, IsPlaced, status_departed}
+use Rattle.ak_top.specs.Refusals.{ScriptFault}
+use Rattle.ak_top.specs.Replays.{source_limit, Outcome, Refuses, Spoils, Goes, IsSpoilt, DoMeet, GivesCut, GivesUncut, IsTooLong, FromCut, FromUncut, Gives, GivesFrom, GivesTold, RunsOver, ReplaysTo, IsReplay, HasCause, Tells, ReportsReplay, IsStop, AnswerTells, IsPlaced, status_departed}
 use Rattle.ak_top.specs.Reports.{is_carried_out, Shows, EndsWell}
 use Rattle.ak_top.specs.Status.{IsStatusOf}
-use Rattle.ak_top.specs.Stops.{status_at, StopsFor, IsProgramOf, Refuses as StopRefuses, Accepts, IsTheRefusal, IsNoRefusal}
+use Rattle.ak_top.specs.Stops.{status_at, IsNoProgram, IsProgramOf, Refuses as StopRefuses, Accepts, IsTheRefusal, IsNoRefusal}
 use Rattle.ak_top.proofs.Reporting.{carried, shown, bare_report}
 
 -- ---- a script that is refused
--- what P says of an outcome is that the script has that fault, or that it can be run
-pub record SpeaksOf (config : Config) (bytes : List ℕ) (P : Outcome → Type 0) : Type 0 where
-  pub refuses : (line kind : ℕ) → P (Refuses line kind) → FaultFor (Replay config) bytes line kind
-  pub spoils : (line : ℕ) → P (Spoils line) → (script : List Proc) × CanRun config bytes script
-  pub goes : (m : Meeting) → P (Goes m) → (script : List Proc) × CanRun config bytes script
+-- what P says of an outcome is that the script has that fault, or that it is valid
+pub record SpeaksOf (bytes : List ℕ) (P : Outcome → Type 0) : Type 0 where
+  pub refuses : (line kind : ℕ) → P (Refuses line kind) → ScriptFault bytes line kind
+  pub spoils : (line : ℕ) → P (Spoils line) → (script : List Proc) × IsScript bytes script
+  pub goes : (m : Meeting) → P (Goes m) → (script : List Proc) × IsScript bytes script
 
-pub cut_speaks : (config : Config) (bytes record_bytes : List ℕ) (first : ℕ) → SpeaksOf config bytes (GivesCut config bytes record_bytes first)
+pub cut_speaks : (config : Config) (bytes record_bytes : List ℕ) (first : ℕ) → SpeaksOf bytes (GivesCut config bytes record_bytes first)
 cut_speaks config bytes record_bytes first = record {
   refuses = λ line kind h. h;
-  spoils = λ line h. (h.script, h.can_run);
-  goes = λ m h. (h.script, h.can_run);
+  spoils = λ line h. (h.script, h.is_script);
+  goes = λ m h. (h.script, h.is_script);
 }
 
-pub uncut_speaks : (config : Config) (bytes : List ℕ) (after : ℕ) → SpeaksOf config bytes (GivesUncut config bytes after)
-uncut_speaks config bytes after = record { refuses = λ line kind h. h; spoils = λ line h. h.0; goes = λ m h. absurd h }
+pub uncut_speaks : (bytes : List ℕ) (after : ℕ) → SpeaksOf bytes (GivesUncut bytes after)
+uncut_speaks bytes after = record { refuses = λ line kind h. h; spoils = λ line h. h.0; goes = λ m h. absurd h }
 
-pub stop_caused : (config : Config) (bytes : List ℕ) (P : Outcome → Type 0) (s : Stop)
-    → ((line kind : ℕ) → FaultFor (Replay config) bytes line kind → P (Refuses line kind)) → StopsFor (Run config) bytes s
+pub stop_caused : (bytes : List ℕ) (P : Outcome → Type 0) (s : Stop)
+    → ((line kind : ℕ) → ScriptFault bytes line kind → P (Refuses line kind)) → IsNoProgram bytes s
     → HasCause P (status_at s)
-stop_caused config bytes P stop.ReadFault made h = absurd h
-stop_caused config bytes P (stop.Refused line kind) made h = made line kind h
-stop_caused config bytes P stop.NoMemory made h = tt
+stop_caused bytes P stop.ReadFault made h = absurd h
+stop_caused bytes P (stop.Refused line kind) made h = made line kind h
+stop_caused bytes P stop.NoMemory made h = tt
 
-pub stop_stops : (config : Config) (bytes : List ℕ) (s : Stop) → StopsFor (Run config) bytes s → IsStop (status_at s)
-stop_stops config bytes stop.ReadFault h = absurd h
-stop_stops config bytes (stop.Refused line kind) h = tt
-stop_stops config bytes stop.NoMemory h = tt
+pub stop_stops : (bytes : List ℕ) (s : Stop) → IsNoProgram bytes s → IsStop (status_at s)
+stop_stops bytes stop.ReadFault h = absurd h
+stop_stops bytes (stop.Refused line kind) h = tt
+stop_stops bytes stop.NoMemory h = tt
 
 refusal_is : (at number line kind : ℕ) → at ≡ line → number ≡ kind → Refuses line kind ≡ Refuses at number
 refusal_is at number line kind e d = ap (λ l. Refuses l kind) (sym e) ∙ ap (λ k. Refuses at k) (sym d)
 
-pub stop_tells : (config : Config) (bytes : List ℕ) (P : Outcome → Type 0) (s : Stop) → SpeaksOf config bytes P → StopsFor (Run config) bytes s
-    → ((line kind : ℕ) → FaultFor (Replay config) bytes line kind → IsTheRefusal line kind s)
-    → ((script : List Proc) → CanRun config bytes script → IsNoRefusal s) → (outcome : Outcome) → P outcome → Tells (status_at s) outcome
-stop_tells config bytes P stop.ReadFault speaks h refuses accepts outcome p = tt
-stop_tells config bytes P stop.NoMemory speaks h refuses accepts outcome p = tt
-stop_tells config bytes P (stop.Refused at number) speaks h refuses accepts (Refuses line kind) p =
+pub stop_tells : (bytes : List ℕ) (P : Outcome → Type 0) (s : Stop) → SpeaksOf bytes P → IsNoProgram bytes s
+    → ((line kind : ℕ) → ScriptFault bytes line kind → IsTheRefusal line kind s)
+    → ((script : List Proc) → IsScript bytes script → IsNoRefusal s) → (outcome : Outcome) → P outcome → Tells (status_at s) outcome
+stop_tells bytes P stop.ReadFault speaks h refuses accepts outcome p = tt
+stop_tells bytes P stop.NoMemory speaks h refuses accepts outcome p = tt
+stop_tells bytes P (stop.Refused at number) speaks h refuses accepts (Refuses line kind) p =
     let is = refuses line kind (speaks.refuses line kind p) in refusal_is at number line kind is.0 is.1
-stop_tells config bytes P (stop.Refused at number) speaks h refuses accepts (Spoils line) p =
+stop_tells bytes P (stop.Refused at number) speaks h refuses accepts (Spoils line) p =
     let s = speaks.spoils line p in absurd (accepts s.0 s.1)
-stop_tells config bytes P (stop.Refused at number) speaks h refuses accepts (Goes m) p =
+stop_tells bytes P (stop.Refused at number) speaks h refuses accepts (Goes m) p =
     let s = speaks.goes m p in absurd (accepts s.0 s.1)
 
 -- ---- a script that is run
-pub program_runs : (config : Config) (bytes : List ℕ) (program : NumProgram) (is : IsProgramOf bytes program) → AreBuilt program.procs
-    → CanRun config bytes is.script
-program_runs config bytes program is built = record {
-  is_script = is.is_script;
-  takes = subst (λ (p : NumProgram). AreBuilt p.procs) is.program_is built;
-}
-
 -- a line of the history is at fault
 pub fault_tells : (config : Config) (bytes record_bytes : List ℕ) (first line : ℕ)
-    → ((l k : ℕ) → FaultFor (Replay config) bytes l k → ⊥)
+    → ((l k : ℕ) → ScriptFault bytes l k → ⊥)
     → ((events : List Event) → IsRecord config.threads config.askers record_bytes first events → IsHistory (Err (refused.BadHistory line)) events)
     → ((number : ℕ) → IsFault config.threads config.askers record_bytes first number → IsLine (Err (refused.BadHistory line)) number)
     → (outcome : Outcome) → GivesCut config bytes record_bytes first outcome → outcome ≡ Spoils line
@@ -114,7 +105,7 @@ same_meeting config bytes program history other script m is is_script same meets
     subst (λ (h : List Event). Meets program config h m) (sym same) (subst (λ (p : NumProgram). Meets p config other m) programs meets)
 
 pub meeting_tells : (config : Config) (bytes record_bytes : List ℕ) (first : ℕ) (program : NumProgram) (history : List Event) (told : Meeting)
-    → IsProgramOf bytes program → ((l k : ℕ) → FaultFor (Replay config) bytes l k → ⊥)
+    → IsProgramOf bytes program → ((l k : ℕ) → ScriptFault bytes l k → ⊥)
     → ((events : List Event) → IsRecord config.threads config.askers record_bytes first events → IsHistory (Ok history) events)
     → ((number : ℕ) → IsFault config.threads config.askers record_bytes first number → IsLine (Ok history) number)
     → ((m : Meeting) → Meets program config history m → m ≡ told)
@@ -122,7 +113,7 @@ pub meeting_tells : (config : Config) (bytes record_bytes : List ℕ) (first : �
 meeting_tells config bytes record_bytes first program history told is none records fault exact (Refuses l k) p = absurd (none l k p)
 meeting_tells config bytes record_bytes first program history told is none records fault exact (Spoils l) p = absurd (fault l p.fault)
 meeting_tells config bytes record_bytes first program history told is none records fault exact (Goes m) p =
-    ap Goes (exact m (same_meeting config bytes program history p.history p.script m is p.can_run.is_script (records p.history p.recorded) p.meets))
+    ap Goes (exact m (same_meeting config bytes program history p.history p.script m is p.is_script (records p.history p.recorded) p.meets))
 
 -- the same of a departure, by its status
 pub departure_tells : (d : Departure) (outcome : Outcome) → outcome ≡ Goes (meeting_of d) → Tells (status_departed d) outcome
@@ -145,11 +136,11 @@ departs_placed program config record_bytes first history (departure.Stray place 
 departs_placed program config record_bytes first history (departure.Short asked) is meets = tt
 
 pub do_meet : (config : Config) (bytes record_bytes : List ℕ) (first : ℕ) (program : NumProgram) (history : List Event) (m : Meeting)
-    → IsProgramOf bytes program → AreBuilt program.procs → IsRecord config.threads config.askers record_bytes first history
+    → IsProgramOf bytes program → IsRecord config.threads config.askers record_bytes first history
     → Meets program config history m → DoMeet config bytes record_bytes first m
-do_meet config bytes record_bytes first program history m is built recorded meets = record {
+do_meet config bytes record_bytes first program history m is recorded meets = record {
   script = is.script;
-  can_run = program_runs config bytes program is built;
+  is_script = is.is_script;
   history = history;
   recorded = recorded;
   meets = subst (λ (p : NumProgram). Meets p config history m) is.program_is meets;
@@ -198,7 +189,7 @@ from_cut config source bytes record_bytes number short cut outcome p =
     inr (short, inl (record { bytes = bytes; number = number; record_bytes = record_bytes; cut = cut; gives = p }))
 
 pub from_uncut : (config : Config) (source : List ℕ) (after : ℕ) → length source ≤ source_limit → IsUncut source after → (outcome : Outcome)
-    → GivesUncut config source after outcome → Gives config source outcome
+    → GivesUncut source after outcome → Gives config source outcome
 from_uncut config source after short uncut outcome p = inr (short, inr (record { after = after; uncut = uncut; gives = p }))
 
 -- a source with a line `%pool` gives what its parts give
@@ -216,18 +207,18 @@ to_cut config source bytes record_bytes number short one none outcome (inr (s, i
 -- and one without gives what its script alone gives
 pub to_uncut : (config : Config) (source : List ℕ) (after : ℕ) → length source ≤ source_limit
     → ((script history : List ℕ) (n : ℕ) → IsCut source script n history → ⊥) → ((n : ℕ) → IsUncut source n → after ≡ n)
-    → (outcome : Outcome) → Gives config source outcome → GivesUncut config source after outcome
+    → (outcome : Outcome) → Gives config source outcome → GivesUncut source after outcome
 to_uncut config source after short none one outcome (inl h) = absurd (omega (arith, short, h.long))
 to_uncut config source after short none one outcome (inr (s, inl h)) = absurd (none h.bytes h.record_bytes h.number h.cut)
 to_uncut config source after short none one outcome (inr (s, inr h)) =
-    subst (λ (n : ℕ). GivesUncut config source n outcome) (sym (one h.after h.uncut)) h.gives
+    subst (λ (n : ℕ). GivesUncut source n outcome) (sym (one h.after h.uncut)) h.gives
 
 -- the line after the last is told
-pub after_tells : (config : Config) (bytes : List ℕ) (after : ℕ) → ((l k : ℕ) → FaultFor (Replay config) bytes l k → ⊥)
-    → (outcome : Outcome) → GivesUncut config bytes after outcome → outcome ≡ Spoils after
-after_tells config bytes after none (Refuses l k) p = absurd (none l k p)
-after_tells config bytes after none (Spoils l) p = ap Spoils p.1
-after_tells config bytes after none (Goes m) p = absurd p
+pub after_tells : (bytes : List ℕ) (after : ℕ) → ((l k : ℕ) → ScriptFault bytes l k → ⊥)
+    → (outcome : Outcome) → GivesUncut bytes after outcome → outcome ≡ Spoils after
+after_tells bytes after none (Refuses l k) p = absurd (none l k p)
+after_tells bytes after none (Spoils l) p = ap Spoils p.1
+after_tells bytes after none (Goes m) p = absurd p
 
 -- ---- what was read
 -- what a source tells is what was read

@@ -6,8 +6,6 @@ use Rattle.ak_history.specs.declared.event.Event.{Event}
 use Rattle.ak_labor.specs.declared.config.Config.{Config}
 use Rattle.ak_machine.specs.Status.{Stat, Well, ByError, AtJobLimit, Unfinished, status_of}
 use Rattle.ak_machine.specs.Status as stat
-use Rattle.ak_words.specs.declared.command.Command.{Command}
-use Rattle.ak_words.specs.declared.command.Command.TheVariants.{Run, Check}
 use Rattle.ak_top.specs.declared.status.Status.{Status}
 use Rattle.ak_top.specs.declared.status.Status.TheVariants.{Done, Unhandled, Usage, Refused, ReadFault, WriteFault, Jobs, NoMemory, BadHistory, Stray, Short, Stuck}
 use Rattle.ak_top.specs.declared.status.Report.{Report}
@@ -79,7 +77,7 @@ of_run Stuck c = tt
 
 pub run_reports : (config : Config) (told : Option (List ℕ)) (r : Report) (trace : List Entry) (history : List Event) → r.trace ≡ trace → r.history ≡ history
     → IsStatusOf (status_of trace) r.status ⊎ (r.status ≡ WriteFault)
-    → IsRun config told trace history → ((line kind : ℕ) → TellsFault (Run config) told line kind → ⊥) → ReportsRun config told r
+    → IsRun config told trace history → ((line kind : ℕ) → TellsFault told line kind → ⊥) → ReportsRun config told r
 run_reports config told r trace history t h s is none =
     let c = carried r.status (status_of trace) s
     in record {
@@ -95,13 +93,13 @@ run_reports config told r trace history t h s is none =
 abbrev pub bare_report : Status → Report
 bare_report s = record { status = s; trace = []; history = [] }
 
-the_refusal : (command : Command) (told : Option (List ℕ)) (line kind l k : ℕ) → IsRefused command told line kind
-    → Refused line kind ≡ Refused l k → IsRefused command told l k
-the_refusal command told line kind l k is e =
-    let a : line ≡ l = cc (e) in let b : kind ≡ k = cc (e) in subst (λ x. IsRefused command told l x) b (subst (λ x. IsRefused command told x kind) a is)
+the_refusal : (told : Option (List ℕ)) (line kind l k : ℕ) → IsRefused told line kind
+    → Refused line kind ≡ Refused l k → IsRefused told l k
+the_refusal told line kind l k is e =
+    let a : line ≡ l = cc (e) in let b : kind ≡ k = cc (e) in subst (λ x. IsRefused told l x) b (subst (λ x. IsRefused told x kind) a is)
 
-run_stops : (config : Config) (told : Option (List ℕ)) (before now : ℕ) (s : Stop) → IsStop (Run config) told before now s
-    → ((line kind : ℕ) → TellsFault (Run config) told line kind → IsTheRefusal line kind s) → (TellsScript (Run config) told → IsNoStop s)
+run_stops : (config : Config) (told : Option (List ℕ)) (before now : ℕ) (s : Stop) → IsStop told before now s
+    → ((line kind : ℕ) → TellsFault told line kind → IsTheRefusal line kind s) → (TellsScript told → IsNoStop s)
     → ReportsRun config told (bare_report (status_at s))
 run_stops config told before now stop.ReadFault is refuses accepts = record {
   of_run = tt;
@@ -117,7 +115,7 @@ run_stops config told before now (stop.Refused line kind) is refuses accepts = r
   run = λ e. absurd (cc (e));
   shows = tt;
   bare = λ e. (refl, refl);
-  refused = λ l k e. the_refusal (Run config) told line kind l k is e;
+  refused = λ l k e. the_refusal told line kind l k is e;
   refuses = λ l k x. refuses l k x;
   completes = λ x. accepts x;
 }
@@ -132,15 +130,15 @@ run_stops config told before now stop.NoMemory is refuses accepts = record {
 }
 
 pub stop_reports_run : (config : Config) (told : Option (List ℕ)) (before now : ℕ) (s : Stop) (status : Status) (r : Report)
-    → r ≡ bare_report status → status ≡ status_at s → IsStop (Run config) told before now s
-    → ((line kind : ℕ) → TellsFault (Run config) told line kind → IsTheRefusal line kind s) → (TellsScript (Run config) told → IsNoStop s)
+    → r ≡ bare_report status → status ≡ status_at s → IsStop told before now s
+    → ((line kind : ℕ) → TellsFault told line kind → IsTheRefusal line kind s) → (TellsScript told → IsNoStop s)
     → ReportsRun config told r
 stop_reports_run config told before now s status r e d is refuses accepts =
     subst (ReportsRun config told) (sym (e ∙ ap bare_report d)) (run_stops config told before now s is refuses accepts)
 
 -- ---- a test of a script
 check_done : (told : Option (List ℕ)) (s : Status) → is_carried_out s ≡ true → IsVerdict s → IsValidSource told
-    → ((line kind : ℕ) → TellsFault Check told line kind → ⊥) → ReportsCheck told (bare_report s)
+    → ((line kind : ℕ) → TellsFault told line kind → ⊥) → ReportsCheck told (bare_report s)
 check_done told s c v is none = record {
   verdict = v;
   valid = λ e. is;
@@ -151,11 +149,11 @@ check_done told s c v is none = record {
 }
 
 pub check_reports : (told : Option (List ℕ)) (s : Status) (r : Report) → r ≡ bare_report s → is_carried_out s ≡ true → IsVerdict s
-    → IsValidSource told → ((line kind : ℕ) → TellsFault Check told line kind → ⊥) → ReportsCheck told r
+    → IsValidSource told → ((line kind : ℕ) → TellsFault told line kind → ⊥) → ReportsCheck told r
 check_reports told s r e c v is none = subst (ReportsCheck told) (sym e) (check_done told s c v is none)
 
-check_stops : (told : Option (List ℕ)) (before now : ℕ) (s : Stop) → IsStop Check told before now s
-    → ((line kind : ℕ) → TellsFault Check told line kind → IsTheRefusal line kind s) → (TellsScript Check told → IsNoStop s)
+check_stops : (told : Option (List ℕ)) (before now : ℕ) (s : Stop) → IsStop told before now s
+    → ((line kind : ℕ) → TellsFault told line kind → IsTheRefusal line kind s) → (TellsScript told → IsNoStop s)
     → ReportsCheck told (bare_report (status_at s))
 check_stops told before now stop.ReadFault is refuses accepts = record {
   verdict = tt;
@@ -169,7 +167,7 @@ check_stops told before now (stop.Refused line kind) is refuses accepts = record
   verdict = tt;
   valid = λ e. absurd (cc (e));
   bare = (refl, refl);
-  refused = λ l k e. the_refusal Check told line kind l k is e;
+  refused = λ l k e. the_refusal told line kind l k is e;
   refuses = λ l k x. refuses l k x;
   completes =
       λ x. accepts x;
@@ -184,8 +182,8 @@ check_stops told before now stop.NoMemory is refuses accepts = record {
 }
 
 pub stop_reports_check : (told : Option (List ℕ)) (before now : ℕ) (s : Stop) (status : Status) (r : Report) → r ≡ bare_report status
-    → status ≡ status_at s → IsStop Check told before now s
-    → ((line kind : ℕ) → TellsFault Check told line kind → IsTheRefusal line kind s) → (TellsScript Check told → IsNoStop s)
+    → status ≡ status_at s → IsStop told before now s
+    → ((line kind : ℕ) → TellsFault told line kind → IsTheRefusal line kind s) → (TellsScript told → IsNoStop s)
     → ReportsCheck told r
 stop_reports_check told before now s status r e d is refuses accepts =
     subst (ReportsCheck told) (sym (e ∙ ap bare_report d)) (check_stops told before now s is refuses accepts)

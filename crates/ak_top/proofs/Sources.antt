@@ -7,16 +7,14 @@ use Rattle.ak_script.specs.declared.script.Proc.{Proc}
 use Rattle.ak_syntax.specs.declared.refusal.GrammarKind.{GrammarKind}
 use Rattle.ak_syntax.specs.declared.refusal.GrammarKind.TheVariants.{TooLong}
 use Rattle.ak_syntax.specs.Faults.{GrammarFault, kind_number}
-use Rattle.ak_words.specs.declared.command.Command.{Command}
-use Rattle.ak_words.specs.declared.command.Command.TheVariants.{Run, Replay, Check}
 use Rattle.ak_top.specs.declared.reading.Text.{Text}
 use Rattle.ak_top.specs.declared.reading.Text.TheVariants as text
 use Rattle.ak_top.specs.declared.stop.Stop.{Stop}
 use Rattle.ak_top.specs.declared.stop.Stop.TheVariants.{ReadFault, Refused, NoMemory}
 use Rattle.ak_top.specs.Headline.{IsScript}
 use Rattle.ak_top.specs.Reading.{script_limit, Had, Began, WasReadTo, WasRead, IsRead, read_bytes}
-use Rattle.ak_top.specs.Refusals.{ScriptFault, Unbuilt, FaultFor, IsRefused, TellsFault, TellsScript}
-use Rattle.ak_top.specs.Stops.{StopsFor, IsStop, Refuses, Accepts}
+use Rattle.ak_top.specs.Refusals.{ScriptFault, IsRefused, TellsFault, TellsScript}
+use Rattle.ak_top.specs.Stops.{IsNoProgram, IsStop, Refuses, Accepts}
 
 pub was_read : (limit : ℕ) (told : Option (List ℕ)) (t : Text) → IsRead limit told t → WasReadTo limit told (read_bytes t)
 was_read limit told (text.Whole bytes) h = inl h
@@ -32,27 +30,19 @@ long_fault bytes all line kind few many (inl (k, e, inl f)) = inl (k, e, inl (re
 long_fault bytes all line kind few many (inl (k, e, inr f)) = absurd (omega (arith, f.0, many))
 long_fault bytes all line kind few many (inr f) = absurd (omega (arith, f.1.size, many))
 
-long_fault_for : (command : Command) (bytes all : List ℕ) (line kind : ℕ) → script_limit < length bytes → script_limit < length all
-    → FaultFor command all line kind → FaultFor command bytes line kind
-long_fault_for (Run config) bytes all line kind few many (inl f) = inl (long_fault bytes all line kind few many f)
-long_fault_for (Run config) bytes all line kind few many (inr u) = absurd (omega (arith, u.is_script.reads.size, many))
-long_fault_for (Replay config) bytes all line kind few many (inl f) = inl (long_fault bytes all line kind few many f)
-long_fault_for (Replay config) bytes all line kind few many (inr u) = absurd (omega (arith, u.is_script.reads.size, many))
-long_fault_for Check bytes all line kind few many f = long_fault bytes all line kind few many f
-
 -- the fault of what a source tells is that of what was read
-fault_of : (command : Command) (told : Option (List ℕ)) (bytes all : List ℕ) (line kind : ℕ) → WasRead told bytes → told ≡ Some all
-    → FaultFor command all line kind → FaultFor command bytes line kind
-fault_of command told bytes all line kind (inl h) tells f =
-    let same : all ≡ bytes = subst (λ t. Had t bytes) tells h.0 in subst (λ b. FaultFor command b line kind) same f
-fault_of command told bytes all line kind (inr h) tells f =
+fault_of : (told : Option (List ℕ)) (bytes all : List ℕ) (line kind : ℕ) → WasRead told bytes → told ≡ Some all
+    → ScriptFault all line kind → ScriptFault bytes line kind
+fault_of told bytes all line kind (inl h) tells f =
+    let same : all ≡ bytes = subst (λ t. Had t bytes) tells h.0 in subst (λ b. ScriptFault b line kind) same f
+fault_of told bytes all line kind (inr h) tells f =
     let more : (more : List ℕ) × (all ≡ bytes ++ more) = subst (λ t. Began t bytes) tells h.0 in
-    long_fault_for command bytes all line kind h.1 (too_many bytes all more h.1) f
+    long_fault bytes all line kind h.1 (too_many bytes all more h.1) f
 
-pub source_refuses : {T : Type 0} (command : Command) (told : Option (List ℕ)) (bytes : List ℕ) (r : Result T Stop) → WasRead told bytes
-    → ((line kind : ℕ) → FaultFor command bytes line kind → Refuses line kind r)
-    → (line kind : ℕ) → TellsFault command told line kind → Refuses line kind r
-source_refuses command told bytes r read h line kind t = h line kind (fault_of command told bytes t.bytes line kind read t.tells t.fault)
+pub source_refuses : {T : Type 0} (told : Option (List ℕ)) (bytes : List ℕ) (r : Result T Stop) → WasRead told bytes
+    → ((line kind : ℕ) → ScriptFault bytes line kind → Refuses line kind r)
+    → (line kind : ℕ) → TellsFault told line kind → Refuses line kind r
+source_refuses told bytes r read h line kind t = h line kind (fault_of told bytes t.bytes line kind read t.tells t.fault)
 
 -- a script that a source tells is what was read
 script_read : (told : Option (List ℕ)) (bytes all : List ℕ) (script : List Proc) → WasRead told bytes → told ≡ Some all
@@ -62,8 +52,8 @@ script_read told bytes all script (inr h) tells is =
     let more : (more : List ℕ) × (all ≡ bytes ++ more) = subst (λ t. Began t bytes) tells h.0 in
     absurd (omega (arith, too_many bytes all more h.1, is.reads.size))
 
-pub script_told : (command : Command) (told : Option (List ℕ)) (bytes : List ℕ) → WasRead told bytes → (t : TellsScript command told) → IsScript bytes t.script
-script_told command told bytes read t = script_read told bytes t.bytes t.script read t.tells t.is_script
+pub script_told : (told : Option (List ℕ)) (bytes : List ℕ) → WasRead told bytes → (t : TellsScript told) → IsScript bytes t.script
+script_told told bytes read t = script_read told bytes t.bytes t.script read t.tells t.is_script
 
 -- a script was read whole
 pub had_script : (told : Option (List ℕ)) (bytes : List ℕ) (script : List Proc) → WasRead told bytes → IsScript bytes script → Had told bytes
@@ -71,16 +61,16 @@ had_script told bytes script (inl h) is = h.0
 had_script told bytes script (inr h) is = absurd (omega (arith, h.1, is.reads.size))
 
 -- ---- why a source stops a command
-stop_at : (command : Command) (told : Option (List ℕ)) (bytes : List ℕ) (before now : ℕ) (stop : Stop) → WasRead told bytes
-    → StopsFor command bytes stop → IsStop command told before now stop
-stop_at command told bytes before now ReadFault read h = absurd h
-stop_at command told bytes before now (Refused line kind) read h = record { bytes = bytes; read = read; fault = h }
-stop_at command told bytes before now NoMemory read h = tt
+stop_at : (told : Option (List ℕ)) (bytes : List ℕ) (before now : ℕ) (stop : Stop) → WasRead told bytes
+    → IsNoProgram bytes stop → IsStop told before now stop
+stop_at told bytes before now ReadFault read h = absurd h
+stop_at told bytes before now (Refused line kind) read h = record { bytes = bytes; read = read; fault = h }
+stop_at told bytes before now NoMemory read h = tt
 
-pub source_stops : {T : Type 0} (command : Command) (told : Option (List ℕ)) (bytes : List ℕ) (before now : ℕ) (r : Result T Stop)
-    → WasRead told bytes → IfErr r (StopsFor command bytes) → IfErr r (IsStop command told before now)
-source_stops command told bytes before now (Ok v) read h = h
-source_stops command told bytes before now (Err stop) read h = stop_at command told bytes before now stop read h
+pub source_stops : {T : Type 0} (told : Option (List ℕ)) (bytes : List ℕ) (before now : ℕ) (r : Result T Stop)
+    → WasRead told bytes → IfErr r (IsNoProgram bytes) → IfErr r (IsStop told before now)
+source_stops told bytes before now (Ok v) read h = h
+source_stops told bytes before now (Err stop) read h = stop_at told bytes before now stop read h
 
 pub ok_map : {T : Type 0} (r : Result T Stop) (P Q : T → Type 0) → ((v : T) → P v → Q v) → IfOk r P → IfOk r Q
 ok_map (Ok v) P Q f h = f v h

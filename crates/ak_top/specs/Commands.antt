@@ -14,8 +14,8 @@ Reports (Run config) told report = ReportsRun config told report
 Reports (Replay config) told report = ReportsReplay config told report
 Reports Check told report = ReportsCheck told report
 
--- a source tells what the command carries out to its end: a script that it takes, and for a replay a history that goes with it
+-- a source tells what the command carries out to its end: a valid script, and for a replay a history that goes with it
 abbrev pub TellsWhole : Command → Option (List ℕ) → Type 0
-TellsWhole (Run config) told = TellsScript (Run config) told
+TellsWhole (Run config) told = TellsScript told
 TellsWhole (Replay config) told = GivesTold config told (Goes Yes)
-TellsWhole Check told = TellsScript Check told
+TellsWhole Check told = TellsScript told

@@ -1,4 +1,5 @@
 pub mod Headline
+pub mod Again
 pub mod Commands
 pub mod Hands
 pub mod Output

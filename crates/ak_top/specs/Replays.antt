@@ -7,7 +7,6 @@ use Rattle.ak_labor.specs.declared.config.Config.{Config}
 use Rattle.ak_machine.specs.Status.{status_of}
 use Rattle.ak_meets.specs.Meets.{Meeting, Yes, Meets}
 use Rattle.ak_meets.specs.Meets as meeting
-use Rattle.ak_words.specs.declared.command.Command.TheVariants.{Replay}
 use Rattle.ak_record.specs.Cuts.{IsCut, IsUncut}
 use Rattle.ak_record.specs.Records.{IsRecord, IsFault}
 use Rattle.ak_replay.specs.declared.port.Departure.{Departure}
@@ -18,17 +17,12 @@ use Rattle.ak_top.specs.declared.status.Status.TheVariants as status
 use Rattle.ak_top.specs.declared.status.Report.{Report}
 use Rattle.ak_top.specs.Headline.{IsScript, RunsTo, program_of}
 use Rattle.ak_top.specs.Reading.{Had, WasReadTo}
-use Rattle.ak_top.specs.Refusals.{FaultFor, Takes}
+use Rattle.ak_top.specs.Refusals.{ScriptFault}
 use Rattle.ak_top.specs.Reports.{is_carried_out, Shows}
 
 -- the most bytes of a source
 abbrev pub source_limit : ℕ
 source_limit = 67108864
-
--- the bytes are a script that can be run
-pub record CanRun (config : Config) (bytes : List ℕ) (script : List Proc) : Type 0 where
-  pub is_script : IsScript bytes script
-  pub takes : Takes (Replay config) script
 
 -- what may come of a source: its script is refused; a line behind it is at fault; or its script and its history meet so
 pub data Outcome : Type 0 where
@@ -36,31 +30,31 @@ pub data Outcome : Type 0 where
   Spoils : (line : ℕ) → Outcome
   Goes : (m : Meeting) → Outcome
 
--- a script that can be run, and the first line at fault of a history
+-- a valid script, and the first line at fault of a history
 pub record IsSpoilt (config : Config) (bytes record_bytes : List ℕ) (first line : ℕ) : Type 0 where
   pub script : List Proc
-  pub can_run : CanRun config bytes script
+  pub is_script : IsScript bytes script
   pub fault : IsFault config.threads config.askers record_bytes first line
 
--- a script that can be run, and a legal history, meet so
+-- a valid script and a legal history meet so
 pub record DoMeet (config : Config) (bytes record_bytes : List ℕ) (first : ℕ) (m : Meeting) : Type 0 where
   pub script : List Proc
-  pub can_run : CanRun config bytes script
+  pub is_script : IsScript bytes script
   pub history : List Event
   pub recorded : IsRecord config.threads config.askers record_bytes first history
   pub meets : Meets (program_of script) config history m
 
 -- what comes of the bytes of a script and those of a history, the first of whose lines has the number `first`
 abbrev pub GivesCut : Config → List ℕ → List ℕ → ℕ → Outcome → Type 0
-GivesCut config bytes record_bytes first (Refuses line kind) = FaultFor (Replay config) bytes line kind
+GivesCut config bytes record_bytes first (Refuses line kind) = ScriptFault bytes line kind
 GivesCut config bytes record_bytes first (Spoils line) = IsSpoilt config bytes record_bytes first line
 GivesCut config bytes record_bytes first (Goes m) = DoMeet config bytes record_bytes first m
 
 -- what comes of the bytes of a script alone, where `after` is the number of the line after their last
-abbrev pub GivesUncut : Config → List ℕ → ℕ → Outcome → Type 0
-GivesUncut config bytes after (Refuses line kind) = FaultFor (Replay config) bytes line kind
-GivesUncut config bytes after (Spoils line) = ((script : List Proc) × CanRun config bytes script) × (line ≡ after)
-GivesUncut config bytes after (Goes m) = ⊥
+abbrev pub GivesUncut : List ℕ → ℕ → Outcome → Type 0
+GivesUncut bytes after (Refuses line kind) = ScriptFault bytes line kind
+GivesUncut bytes after (Spoils line) = ((script : List Proc) × IsScript bytes script) × (line ≡ after)
+GivesUncut bytes after (Goes m) = ⊥
 
 -- more bytes than a source may have are refused as a whole, by kind 2
 pub record IsTooLong (source : List ℕ) (outcome : Outcome) : Type 0 where
@@ -76,16 +70,16 @@ pub record FromCut (config : Config) (source : List ℕ) (outcome : Outcome) : T
   pub gives : GivesCut config bytes record_bytes (number + 1) outcome
 
 -- what comes of one that has none
-pub record FromUncut (config : Config) (source : List ℕ) (outcome : Outcome) : Type 0 where
+pub record FromUncut (source : List ℕ) (outcome : Outcome) : Type 0 where
   pub after : ℕ
   pub uncut : IsUncut source after
-  pub gives : GivesUncut config source after outcome
+  pub gives : GivesUncut source after outcome
 
 -- what comes of a source
 abbrev pub Gives : Config → List ℕ → Outcome → Type 0
 Gives config source outcome =
     IsTooLong source outcome
-    ⊎ ((length source ≤ source_limit) × (FromCut config source outcome ⊎ FromUncut config source outcome))
+    ⊎ ((length source ≤ source_limit) × (FromCut config source outcome ⊎ FromUncut source outcome))
 
 -- the same of the bytes that were read of a source, and of a source that tells its bytes
 pub record GivesFrom (config : Config) (told : Option (List ℕ)) (outcome : Outcome) : Type 0 where

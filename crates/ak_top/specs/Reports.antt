@@ -4,14 +4,13 @@ use Rattle.ak_base.specs.Streams.{grown, TookBeginning}
 use Rattle.ak_labor.specs.declared.config.Config.{Config}
 use Rattle.ak_machine.specs.Status.{Stat, Well, ByError, AtJobLimit, status_of}
 use Rattle.ak_machine.specs.Status as stat
-use Rattle.ak_words.specs.declared.command.Command.TheVariants as command
 use Rattle.ak_top.specs.declared.status.Status.{Status}
 use Rattle.ak_top.specs.declared.status.Status.TheVariants.{Done, Unhandled, Usage, Refused, ReadFault, WriteFault, Jobs, NoMemory, BadHistory, Stray, Short, Stuck}
 use Rattle.ak_top.specs.declared.status.Report.{Report}
 use Rattle.ak_top.specs.Headline.{IsRun, IsValidSource}
 use Rattle.ak_top.specs.Refusals.{IsRefused, TellsFault, TellsScript}
 
--- whether the command was carried out: the script was taken
+-- whether the command was carried out
 abbrev pub is_carried_out : Status → Bool
 is_carried_out Done = true
 is_carried_out (Unhandled num) = true
@@ -81,19 +80,19 @@ pub record ReportsRun (config : Config) (told : Option (List ℕ)) (report : Rep
   -- there is no trace and no history without a run
   pub bare : is_carried_out report.status ≡ false → (report.trace ≡ []) × (report.history ≡ [])
   -- a refusal names the first fault of what was read, and a fault is refused
-  pub refused : (line kind : ℕ) → report.status ≡ Refused line kind → IsRefused (command.Run config) told line kind
-  pub refuses : (line kind : ℕ) → TellsFault (command.Run config) told line kind → IsRefusal line kind report.status
-  -- a script that is built is run
-  pub completes : TellsScript (command.Run config) told → IsNoRefusal report.status
+  pub refused : (line kind : ℕ) → report.status ≡ Refused line kind → IsRefused told line kind
+  pub refuses : (line kind : ℕ) → TellsFault told line kind → IsRefusal line kind report.status
+  -- a valid script is run
+  pub completes : TellsScript told → IsNoRefusal report.status
 
 -- the report of a test of a script
 pub record ReportsCheck (told : Option (List ℕ)) (report : Report) : Type 0 where
   pub verdict : IsVerdict report.status
   pub valid : is_carried_out report.status ≡ true → IsValidSource told
   pub bare : (report.trace ≡ []) × (report.history ≡ [])
-  pub refused : (line kind : ℕ) → report.status ≡ Refused line kind → IsRefused command.Check told line kind
-  pub refuses : (line kind : ℕ) → TellsFault command.Check told line kind → IsRefusal line kind report.status
-  pub completes : TellsScript command.Check told → IsNoRefusal report.status
+  pub refused : (line kind : ℕ) → report.status ≡ Refused line kind → IsRefused told line kind
+  pub refuses : (line kind : ℕ) → TellsFault told line kind → IsRefusal line kind report.status
+  pub completes : TellsScript told → IsNoRefusal report.status
 
 -- the command was carried out to its end, or there was no memory
 abbrev pub EndsWell : Status → Type 0

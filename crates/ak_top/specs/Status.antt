@@ -25,7 +25,7 @@ number_of Stuck = 10
 abbrev pub kind_names : List (List ℕ)
 kind_names =
     codes "BadLine" ∷ codes "TooLong" ∷ codes "TooMany" ∷ codes "BadNumber" ∷ codes "NoMain" ∷ codes "TwiceNamed"
-    ∷ codes "UnknownName" ∷ codes "WrongKind" ∷ codes "WrongCount" ∷ codes "Unbuilt" ∷ []
+    ∷ codes "UnknownName" ∷ codes "WrongKind" ∷ codes "WrongCount" ∷ []
 
 abbrev pub name_of_kind : ℕ → List ℕ
 name_of_kind kind = slice_index_or ([] ∷ kind_names) kind []

@@ -9,7 +9,6 @@ use Rattle.ak_valid.specs.declared.refusal.ValidRefused.{ValidRefused}
 use Rattle.ak_valid.specs.declared.refusal.ValidRefused.TheVariants as valid
 use Rattle.ak_syntax.specs.Grammar.{Reads}
 use Rattle.ak_program.specs.Programs.{NumProgram}
-use Rattle.ak_words.specs.declared.command.Command.{Command}
 use Rattle.ak_top.specs.declared.reading.ReadError.{ReadError}
 use Rattle.ak_top.specs.declared.reading.ReadError.TheVariants as read
 use Rattle.ak_top.specs.declared.status.Status.{Status}
@@ -17,7 +16,7 @@ use Rattle.ak_top.specs.declared.status.Status.TheVariants as status
 use Rattle.ak_top.specs.declared.stop.Stop.{Stop}
 use Rattle.ak_top.specs.declared.stop.Stop.TheVariants.{ReadFault, Refused, NoMemory}
 use Rattle.ak_top.specs.Headline.{IsScript, program_of}
-use Rattle.ak_top.specs.Refusals.{ScriptFault, FaultFor, IsRefused}
+use Rattle.ak_top.specs.Refusals.{ScriptFault, IsRefused}
 
 abbrev pub status_at : Stop → Status
 status_at ReadFault = status.ReadFault
@@ -43,12 +42,6 @@ pub record IsProgramOf (bytes : List ℕ) (program : NumProgram) : Type 0 where
   pub only : (other : List Proc) → Reads bytes other → script ≡ other
   pub program_is : program ≡ program_of script
 
--- why these bytes stop a command
-abbrev pub StopsFor : Command → List ℕ → Stop → Type 0
-StopsFor command bytes ReadFault = ⊥
-StopsFor command bytes (Refused line kind) = FaultFor command bytes line kind
-StopsFor command bytes NoMemory = Unit {0}
-
 -- why bytes are no program
 abbrev pub IsNoProgram : List ℕ → Stop → Type 0
 IsNoProgram bytes ReadFault = ⊥
@@ -56,10 +49,10 @@ IsNoProgram bytes (Refused line kind) = ScriptFault bytes line kind
 IsNoProgram bytes NoMemory = Unit {0}
 
 -- why a source stops a command: its count of faults rose, its script is refused, or there was no memory
-abbrev pub IsStop : Command → Option (List ℕ) → ℕ → ℕ → Stop → Type 0
-IsStop command told before now ReadFault = Rose before now
-IsStop command told before now (Refused line kind) = IsRefused command told line kind
-IsStop command told before now NoMemory = Unit {0}
+abbrev pub IsStop : Option (List ℕ) → ℕ → ℕ → Stop → Type 0
+IsStop told before now ReadFault = Rose before now
+IsStop told before now (Refused line kind) = IsRefused told line kind
+IsStop told before now NoMemory = Unit {0}
 
 -- the stop is this refusal, or a fault of reading, or want of memory
 abbrev pub IsTheRefusal : ℕ → ℕ → Stop → Type 0

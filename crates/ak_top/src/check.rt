@@ -45,7 +45,7 @@ pub fn check_words<S: Source, K: Sink>(
         → IsCommand words.now × Rose (S.faults source.old) (S.faults source.new) }
     ensures write_fault { result.status ≡ Status.WriteFault
         → IsCommand words.now × Rose (K.faults sink.old) (K.faults sink.new) }
-    ensures complete { Means words.now Check → TellsScript Check (S.left source.old)
+    ensures complete { Means words.now Check → TellsScript (S.left source.old)
         → (Rose (S.faults source.old) (S.faults source.new) → ⊥) → (Rose (K.faults sink.old) (K.faults sink.new) → ⊥)
         → EndsWell result.status }
     ensures source_faults { S.faults source.old ≤ S.faults source.new }

@@ -2,6 +2,7 @@
 #![tactic(auto)]
 
 pub mod check;
+pub mod law;
 pub mod reading;
 pub mod replay;
 pub mod running;

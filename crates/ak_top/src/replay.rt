@@ -15,7 +15,7 @@ ghost use Rattle.ak_top.specs.Reports.{is_carried_out, Took, EndsWell};
 
 use crate::check::without_run;
 use crate::reading::{RECORD_LIMIT, Text, read_source};
-use crate::running::{Ran, load_built};
+use crate::running::{Ran, load};
 use crate::status::{Report, Status};
 use crate::stop::Stop;
 use crate::top::write_run;
@@ -145,7 +145,7 @@ fn replay_bytes(alloc: Global, config: Config, source: &[u8]) -> Result<Ran, Sta
 {
     match cut_at_pool(source) {
         Ok(cut) => replay_cut(alloc, config, cut.script, cut.history, cut.number + 1),
-        Err(after) => Err(without_record(alloc, config, source, after)),
+        Err(after) => Err(without_record(alloc, source, after)),
     }
 }
 
@@ -169,7 +169,7 @@ fn replay_cut(
         → GivesCut config script.now record_bytes.now first outcome
         → AnswerTells result outcome }
 {
-    let program = match load_built(alloc, script) {
+    let program = match load(alloc, script) {
         Ok(program) => program,
         Err(stop) => return Err(stop.status()),
     };
@@ -194,13 +194,13 @@ fn replay_cut(
 }
 
 // Why a source without a line `%pool` is not replayed.
-fn without_record(alloc: Global, config: Config, source: &[u8], after: u32) -> Status
-    ensures caused { HasCause (GivesUncut config source.now after) result }
+fn without_record(alloc: Global, source: &[u8], after: u32) -> Status
+    ensures caused { HasCause (GivesUncut source.now after) result }
     ensures stops { IsStop result }
-    ensures tells { (outcome : Outcome) → GivesUncut config source.now after outcome
+    ensures tells { (outcome : Outcome) → GivesUncut source.now after outcome
         → AnswerTells (Err result) outcome }
 {
-    match load_built(alloc, source) {
+    match load(alloc, source) {
         Ok(program) => {
             drop(program);
             Status::BadHistory { line: after }

@@ -1,25 +1,20 @@
 //! A script from its source to its trace.
 
-ghost use Rattle.std.specs.Prelude.{◌≡◌, ◌≤◌, ℕ, List, length, IfOk, IfErr, OnOk, MatchOption};
+ghost use Rattle.std.specs.Prelude.{◌≡◌, ◌≤◌, ℕ, List, IfOk, IfErr, OnOk};
 ghost use Rattle.ak_script.specs.declared.script.Proc.{Proc};
 ghost use Rattle.ak_crew.specs.Crews.{AreUnused};
 ghost use Rattle.ak_cycle.specs.Turns.{IsFinished};
-ghost use Rattle.ak_exec.specs.Built.{AreBuilt, FirstUnbuilt, statements};
-ghost use Rattle.ak_labor.specs.declared.config.Config.{Config as Settings};
 ghost use Rattle.ak_machine.specs.Status.{status_of};
-ghost use Rattle.ak_valid.specs.Numbered.{numbered};
-ghost use Rattle.ak_words.specs.declared.command.Command.TheVariants.{Run, Check};
 ghost use Rattle.ak_top.specs.Hands.{HaveCarried, AreKept};
 ghost use Rattle.ak_top.specs.Headline.{IsScript, RunsTo, IsRun, IsValidSource};
 ghost use Rattle.ak_top.specs.Reading.{WasRead};
-ghost use Rattle.ak_top.specs.Refusals.{ScriptFault, FaultFor, TellsFault, TellsScript};
-ghost use Rattle.ak_top.specs.Stops.{IsStop, StopsFor, IsNoProgram, IsProgramOf, Refuses, Accepts};
+ghost use Rattle.ak_top.specs.Refusals.{ScriptFault, TellsFault, TellsScript};
+ghost use Rattle.ak_top.specs.Stops.{IsStop, IsNoProgram, IsProgramOf, Refuses, Accepts};
 
 use crate::reading::{SCRIPT_LIMIT, Text, read_source};
 use crate::stop::Stop;
 use ak_base::source::Source;
 use ak_crew::crew::crew;
-use ak_exec::built::first_unbuilt;
 use ak_history::event::History;
 use ak_labor::config::Config;
 use ak_labor::labor::Labor;
@@ -37,9 +32,6 @@ pub struct Ran {
     pub trace: Trace,
     pub history: History,
 }
-
-/// The kind of a script with a statement that is not built.
-const UNBUILT: u8 = 10;
 
 /// Reads a script and runs it. The hands come back; where there was no memory nothing is known of them.
 pub fn run_source<S: Source, L: Labor + Drop, R: Threads + Wait + Sync>(
@@ -59,10 +51,10 @@ pub fn run_source<S: Source, L: Labor + Drop, R: Threads + Wait + Sync>(
         (λ ran. HaveCarried L.carried hands.items result.1.items ran.history) }
     ensures kept { IfErr result.0 (AreKept hands.items result.1.items) }
     ensures stop { IfErr result.0
-        (IsStop (Run config) (S.left source.old) (S.faults source.old) (S.faults source.new)) }
-    ensures refuses { (line kind : ℕ) → TellsFault (Run config) (S.left source.old) line kind
+        (IsStop (S.left source.old) (S.faults source.old) (S.faults source.new)) }
+    ensures refuses { (line kind : ℕ) → TellsFault (S.left source.old) line kind
         → Refuses line kind result.0 }
-    ensures accepts { TellsScript (Run config) (S.left source.old) → Accepts result.0 }
+    ensures accepts { TellsScript (S.left source.old) → Accepts result.0 }
     ensures faults { S.faults source.old ≤ S.faults source.new }
 {
     match read_source(alloc, source, SCRIPT_LIMIT) {
@@ -75,10 +67,10 @@ pub fn run_source<S: Source, L: Labor + Drop, R: Threads + Wait + Sync>(
 pub fn check_source<S: Source>(alloc: Global, source: &mut S) -> Result<(), Stop>
     ensures valid { OnOk result (IsValidSource (S.left source.old)) }
     ensures stop { IfErr result
-        (IsStop Check (S.left source.old) (S.faults source.old) (S.faults source.new)) }
-    ensures refuses { (line kind : ℕ) → TellsFault Check (S.left source.old) line kind
+        (IsStop (S.left source.old) (S.faults source.old) (S.faults source.new)) }
+    ensures refuses { (line kind : ℕ) → TellsFault (S.left source.old) line kind
         → Refuses line kind result }
-    ensures accepts { TellsScript Check (S.left source.old) → Accepts result }
+    ensures accepts { TellsScript (S.left source.old) → Accepts result }
     ensures faults { S.faults source.old ≤ S.faults source.new }
 {
     match read_source(alloc, source, SCRIPT_LIMIT) {
@@ -90,8 +82,8 @@ pub fn check_source<S: Source>(alloc: Global, source: &mut S) -> Result<(), Stop
 // Tests the script in these bytes.
 fn check_bytes(alloc: Global, bytes: &[u8]) -> Result<(), Stop>
     ensures valid { OnOk result ((script : List Proc) × IsScript bytes.now script) }
-    ensures stop { IfErr result (StopsFor Check bytes.now) }
-    ensures refuses { (line kind : ℕ) → FaultFor Check bytes.now line kind
+    ensures stop { IfErr result (IsNoProgram bytes.now) }
+    ensures refuses { (line kind : ℕ) → ScriptFault bytes.now line kind
         → Refuses line kind result }
     ensures accepts { (script : List Proc) → IsScript bytes.now script → Accepts result }
 {
@@ -118,13 +110,12 @@ fn run_bytes<L: Labor + Drop, R: Threads + Wait + Sync>(
     ensures carried { IfOk result.0
         (λ ran. HaveCarried L.carried hands.items result.1.items ran.history) }
     ensures kept { IfErr result.0 (AreKept hands.items result.1.items) }
-    ensures stop { IfErr result.0 (StopsFor (Run config) bytes.now) }
-    ensures refuses { (line kind : ℕ) → FaultFor (Run config) bytes.now line kind
+    ensures stop { IfErr result.0 (IsNoProgram bytes.now) }
+    ensures refuses { (line kind : ℕ) → ScriptFault bytes.now line kind
         → Refuses line kind result.0 }
-    ensures accepts { (script : List Proc) → IsScript bytes.now script
-        → AreBuilt (numbered script) → Accepts result.0 }
+    ensures accepts { (script : List Proc) → IsScript bytes.now script → Accepts result.0 }
 {
-    match load_built(alloc, bytes) {
+    match load(alloc, bytes) {
         Ok(program) => run_program(rt, alloc, config, bytes, program, hands),
         Err(stop) => (Err(stop), hands),
     }
@@ -144,7 +135,6 @@ fn run_program<L: Labor + Drop, R: Threads + Wait + Sync>(
     requires askers { config.askers ≡ 0 }
     requires hands { AreUnused L.carried config.threads hands.items }
     requires program { IsProgramOf bytes.now program }
-    requires built { AreBuilt program.procs }
     ensures ran { IfOk result.0 (λ ran. RunsTo config bytes.now ran.trace ran.history) }
     ensures finished { IfOk result.0 (λ ran. IsFinished (status_of ran.trace)) }
     ensures carried { IfOk result.0
@@ -163,33 +153,8 @@ fn run_program<L: Labor + Drop, R: Threads + Wait + Sync>(
     }
 }
 
-// The program of the script in these bytes, each of whose statements is built.
-pub(crate) fn load_built(alloc: Global, bytes: &[u8]) -> Result<Program, Stop>
-    ensures program { IfOk result (IsProgramOf bytes.now) }
-    ensures built { IfOk result (λ program. AreBuilt program.procs) }
-    ensures stop { (config : Settings) → IfErr result (StopsFor (Run config) bytes.now) }
-    ensures refuses { (config : Settings) (line kind : ℕ)
-        → FaultFor (Run config) bytes.now line kind → Refuses line kind result }
-    ensures accepts { (script : List Proc) → IsScript bytes.now script
-        → AreBuilt (numbered script) → Accepts result }
-{
-    match load(alloc, bytes) {
-        Ok(program) => match first_unbuilt(&program) {
-            None => Ok(program),
-            Some(line) => {
-                drop(program);
-                Err(Stop::Refused {
-                    line,
-                    kind: UNBUILT,
-                })
-            }
-        },
-        Err(stop) => Err(stop),
-    }
-}
-
 // The program of the script in these bytes.
-fn load(alloc: Global, bytes: &[u8]) -> Result<Program, Stop>
+pub(crate) fn load(alloc: Global, bytes: &[u8]) -> Result<Program, Stop>
     ensures program { IfOk result (IsProgramOf bytes.now) }
     ensures stop { IfErr result (IsNoProgram bytes.now) }
     ensures refuses { (line kind : ℕ) → ScriptFault bytes.now line kind → Refuses line kind result }

@@ -116,7 +116,6 @@ fn kind_name(kind: u8) -> &'static str
         7 => "UnknownName",
         8 => "WrongKind",
         9 => "WrongCount",
-        10 => "Unbuilt",
         _ => "",
     }
 }

@@ -79,7 +79,7 @@ pub fn top<S: Source, K: Sink, L: Labor + Drop, R: Threads + Wait + Sync>(
         → (result.0.trace ≡ []) × (result.0.history ≡ [])
         × (K.taken sink.new ≡ K.taken sink.old) }
 
-    // faults of reading and writing come only where a count rose, and without them a script that can be run is run
+    // faults of reading and writing come only where a count rose, and without them a command comes to its end
     ensures read_fault { result.0.status ≡ Status.ReadFault
         → IsCommand words.now × Rose (S.faults source.old) (S.faults source.new) }
     ensures write_fault { result.0.status ≡ Status.WriteFault

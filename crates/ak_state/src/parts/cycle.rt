@@ -4,8 +4,7 @@ ghost use Rattle.std.specs.Prelude.{◌≡◌, None, OnOk, OnErr, false, true, n
 ghost use Rattle.ak_cells.specs.Names.{name_in};
 ghost use Rattle.std.specs.Option.{option_map};
 ghost use Rattle.ak_rings.specs.Queues.{pick_of, has_pick, has_no_job};
-ghost use Rattle.ak_machine.specs.Cycle.{cycle_begun, has_more, is_stuck, is_quiet, with_left};
-ghost use Rattle.ak_base.specs.Lists.{is_empty_list};
+ghost use Rattle.ak_machine.specs.Cycle.{cycle_begun, has_more, is_quiet, with_left};
 ghost use Rattle.ak_machine.specs.Mapped.{job_mapped};
 ghost use Rattle.ak_state.specs.Seen.{doing, without_pick};
 ghost use Rattle.ak_state.specs.Fits.{FitsSome};
@@ -42,24 +41,6 @@ impl Parts {
         let yields = self.lists.clock.any_yield();
         let due = self.lists.clock.any_due();
         jobs | yields | due
-    }
-
-    /// Whether a work is outstanding. None is, as works are not built.
-    pub fn has_work(&self) -> bool
-        ensures works { result ≡ not (is_empty_list self.now.plain.works) }
-        ensures none { result ≡ false }
-    {
-        let _trace = &self.trace;
-        false
-    }
-
-    /// Whether a work is outstanding, every such work is general, and at least so many helpers are granted and not
-    /// ended. No work is outstanding, as works are not built.
-    pub fn is_stuck(&self, threads: u32) -> bool
-        ensures { result ≡ is_stuck threads self.now.plain }
-    {
-        let _trace = &self.trace;
-        false
     }
 
     /// So many askers are left.

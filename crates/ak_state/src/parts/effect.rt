@@ -5,13 +5,13 @@ ghost use Rattle.std.specs.List.{All};
 ghost use Rattle.ak_cells.specs.Names.{name_in};
 ghost use Rattle.ak_machine.specs.Mapped.{value_mapped, values_mapped, choosable_mapped};
 ghost use Rattle.ak_machine.specs.Effect.{value_of, number_in, name_in as name_at, args_of};
-ghost use Rattle.ak_state.specs.Reads.{named, IsNumAt, IsDeferredAt, IsMonitorAt, IsThrottleAt, IsEventAt, IsBound, AreBound, AreDeferredsAt, AreChoicesAt};
+ghost use Rattle.ak_state.specs.Reads.{named, IsNumAt, IsDeferredAt, IsMonitorAt, IsThrottleAt, IsEventAt, IsBound, AreBound, AreDeferredsAt, AreChoicesAt, IsPipeAt};
 ghost use Rattle.ak_machine.specs.Statement.{choosable};
 
-use crate::local::{event_of, ivar_of, local_at, mon_of, num_of, thr_of};
+use crate::local::{event_of, ivar_of, local_at, mon_of, num_of, pipe_of, thr_of};
 use crate::parts::Parts;
 use ak_base::list::{Items, NoMemory};
-use ak_base::number::{EventNo, IvarNo, MonNo, Num, ThrottleNo};
+use ak_base::number::{EventNo, IvarNo, MonNo, Num, PipeNo, ThrottleNo};
 use ak_frames::value::{Vals, Value};
 use ak_machine::held::Choosable;
 use ak_program::statement::{NumArgs, NumAtom, NumChoices, Places};
@@ -83,6 +83,15 @@ impl Parts {
         ensures drawn { result < length self.now.plain.monitors }
     {
         mon_of(local_at(vals, k))
+    }
+
+    /// The pipe that a local names.
+    pub fn pipe_at(&self, vals: &Vals, k: usize) -> PipeNo
+        requires { IsPipeAt self.now.plain (named self.now vals.now) k }
+        ensures name { result ≡ name_at (named self.now vals.now) k }
+        ensures drawn { result < length self.now.plain.pipes }
+    {
+        pipe_of(local_at(vals, k))
     }
 
     /// The throttle that a local names.

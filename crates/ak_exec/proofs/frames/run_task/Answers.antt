@@ -1,4 +1,4 @@
-use Rattle.std.proofs.Common.{◌≤◌, length, subst, arith, ap, ◌∙◌}
+use Rattle.std.proofs.Common.{◌≤◌, length, subst, arith}
 use Rattle.ak_machine.specs.Errors.{After}
 use Rattle.ak_machine.specs.Groups.{part_at}
 use Rattle.ak_machine.specs.Job.{value_or_zero}
@@ -11,7 +11,6 @@ use Rattle.ak_state.proofs.Groups.{with_parts, try_done_grows}
 use Rattle.ak_state.proofs.Choices.{part_ended_grows, part_call_fits, choice_ended_grows, choice_call_fits}
 use Rattle.ak_state.proofs.Ends.{body_ended_grows, body_failed_grows}
 use Rattle.ak_state.proofs.Errors.{send_grows}
-use Rattle.ak_exec.proofs.Sent.{on_ok}
 use Rattle.ak_exec.proofs.frames.run_task.Goals as goal
 
 pub run_call-requires-in-OnValue-clause-call : goal.run_call-requires-in-OnValue-clause-call
@@ -86,17 +85,17 @@ send-requires-clause-fits c =
       fits = (body_failed_grows c.args.program.now.procs c.in-BodyFailed.body c.args.parts.now.plain c.requires.fits).fits;
     })
 
-pub returns-in_ok-fail_body-in-BodyFailed-clause-fits : goal.returns-in_ok-fail_body-in-BodyFailed-clause-fits
-returns-in_ok-fail_body-in-BodyFailed-clause-fits c =
+pub returns-in_ok-flow-in-BodyFailed-clause-fits : goal.returns-in_ok-flow-in-BodyFailed-clause-fits
+returns-in_ok-flow-in-BodyFailed-clause-fits c =
     let program = c.args.program.now.procs
     in let s = c.args.parts.now.plain
     in let failed = body_failed_grows program c.in-BodyFailed.body s c.requires.fits
     in let fits : Fits program c.fail_body.new.self.plain = rw c.in_ok-fail_body-in-BodyFailed.ensures failed.fits
-    in on_ok c.send.result _ _ c.send.ensures.sent
-    (λ flow sent. subst (λ (a : After). Fits program a.state) sent (send_grows program c.args.ctx.mon _ c.fail_body.new.self.plain fits).fits)
+    in subst (λ (a : After). Fits program a.state) c.in_ok-flow-in-BodyFailed.ensures.sent
+    (send_grows program c.args.ctx.mon _ c.fail_body.new.self.plain fits).fits
 
-pub returns-in-Raise-clause-fits : goal.returns-in-Raise-clause-fits
-returns-in-Raise-clause-fits c =
+pub returns-in_ok-raised-in-Raise-clause-fits : goal.returns-in_ok-raised-in-Raise-clause-fits
+returns-in_ok-raised-in-Raise-clause-fits c =
     let program = c.args.program.now.procs
-    in on_ok c.send-in-Raise.result _ _ c.send-in-Raise.ensures.sent
-    (λ flow sent. subst (λ (a : After). Fits program a.state) sent (send_grows program c.args.ctx.mon _ c.args.parts.now.plain c.requires.fits).fits)
+    in subst (λ (a : After). Fits program a.state) c.in_ok-raised-in-Raise.ensures.sent
+    (send_grows program c.args.ctx.mon _ c.args.parts.now.plain c.requires.fits).fits

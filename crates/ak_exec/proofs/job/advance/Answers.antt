@@ -2,7 +2,8 @@ use Rattle.std.proofs.Common.{◌≡◌, ◌+◌, ◌<◌, ap, sym, subst, lengt
 use Rattle.std.proofs.lemmas.Int.{to_z-of_z}
 use Rattle.ak_cells.specs.Names.{name_in}
 use Rattle.ak_machine.specs.Mapped.{ret_mapped, value_mapped}
-use Rattle.ak_machine.specs.Errors.{After, going_on, send}
+use Rattle.ak_machine.specs.declared.flow.Flow.TheVariants as flow
+use Rattle.ak_machine.specs.Errors.{After, going_on, stopped, send}
 use Rattle.ak_machine.specs.Job.{Over, returned}
 use Rattle.ak_state.specs.Reads.{named}
 use Rattle.ak_state.specs.Seen.{Seen}
@@ -12,8 +13,8 @@ use Rattle.ak_state.specs.Errors.{after_is}
 use Rattle.ak_state.proofs.Errors.{send_grows}
 use Rattle.ak_exec.specs.Typed.{IsReturned}
 use Rattle.ak_exec.proofs.Lists.{cons_at}
-use Rattle.ak_exec.proofs.Typed.{head_told, head_ready, head_returned, head_ended, way_goes}
-use Rattle.ak_exec.proofs.Way.{line_goes, line_raises, line_returns, line_ends, goes_returns}
+use Rattle.ak_exec.proofs.Typed.{head_told, head_ready, head_returned, head_ended, way_goes, way_asks}
+use Rattle.ak_exec.proofs.Way.{line_goes, line_raises, line_returns, line_stops, line_asks, line_ends, goes_returns}
 use Rattle.ak_exec.proofs.Returned.{returned_grows}
 use Rattle.ak_holders.specs.Returns.{IsEmptyResult}
 use Rattle.ak_holders.proofs.Carry.{returns_here}
@@ -42,9 +43,6 @@ returns-in-Goes-clause-way c =
     in way_goes c.args.program.now.procs c.args.parts.now.plain c.run_line.new.parts.plain (named c.args.parts.now c.args.vals.now)
     (named c.run_line.new.parts c.run_line.new.vals) c.args.job.now.ctx _ _ c.index-lines-k.result _ (rw e at c.requires.way)
     (ap (λ ns. ret_mapped (name_in ns) c.args.job.now.ret) takes.1) takes.0
-
-pub returns-in-Goes-clause-fits : goal.returns-in-Goes-clause-fits
-returns-in-Goes-clause-fits c = (returns-in-Goes-clause-way c).fits
 
 pub returns-in-Goes-clause-runs : goal.returns-in-Goes-clause-runs
 returns-in-Goes-clause-runs c =
@@ -156,3 +154,35 @@ returns-in-Ends-clause-runs c =
     in let takes = rw c.in-Ends.is at c.in_ok-step.ensures
     in line_ends c.args.job.now.ctx _ _ c.index-lines-k.result _ c.args.parts.now.plain (named c.args.parts.now c.args.vals.now)
     (after_is c.in-Ends.flow c.run_line.new.parts.plain) e takes.0
+
+-- ---- a line that stops the run
+pub returns-in_ok-note-in-Stops-clause-fits : goal.returns-in_ok-note-in-Stops-clause-fits
+returns-in_ok-note-in-Stops-clause-fits c =
+    let takes = rw c.in-Stops.is at c.in_ok-step.ensures
+    in let fits = subst (λ (x : Seen). Fits c.args.program.now.procs x.plain) (sym takes.1) c.requires.way.fits
+    in rw c.in_ok-note-in-Stops.ensures.ok fits
+
+pub returns-in_ok-note-in-Stops-clause-runs : goal.returns-in_ok-note-in-Stops-clause-runs
+returns-in_ok-note-in-Stops-clause-runs c =
+    let e = cons_at c.args.lines.now c.args.k c.index-lines-k.result c.requires.some c.index-lines-k.is
+    in let takes = rw c.in-Stops.is at c.in_ok-step.ensures
+    in line_stops c.args.job.now.ctx _ _ c.index-lines-k.result _ c.args.parts.now.plain (named c.args.parts.now c.args.vals.now) e takes.0
+    ∙ ap (λ (x : Seen). Over (stopped x.plain)) (sym takes.1)
+    ∙ ap (λ (x : Seen). Over (after_is flow.Stopped x.plain)) (sym c.in_ok-note-in-Stops.ensures.ok)
+
+-- ---- a line that asks
+pub returns-in-Asks-clause-fits : goal.returns-in-Asks-clause-fits
+returns-in-Asks-clause-fits c =
+    let e = cons_at c.args.lines.now c.args.k c.index-lines-k.result c.requires.some c.index-lines-k.is
+    in let takes = rw c.in-Asks.is at c.in_ok-step.ensures
+    in way_asks c.args.program.now.procs c.args.parts.now.plain c.run_line.new.parts.plain (named c.args.parts.now c.args.vals.now)
+    (named c.run_line.new.parts c.run_line.new.vals) c.args.job.now.ctx _ _ c.in-Asks.ask c.index-lines-k.result _ (rw e at c.requires.way)
+    (ap (λ ns. ret_mapped (name_in ns) c.args.job.now.ret) takes.1) takes.0 takes.2
+
+pub returns-in-Asks-clause-runs : goal.returns-in-Asks-clause-runs
+returns-in-Asks-clause-runs c =
+    let e = cons_at c.args.lines.now c.args.k c.index-lines-k.result c.requires.some c.index-lines-k.is
+    in let takes = rw c.in-Asks.is at c.in_ok-step.ensures
+    in line_asks c.args.job.now.ctx _ _ _ c.index-lines-k.result _ c.args.parts.now.plain c.run_line.new.parts.plain
+    (named c.args.parts.now c.args.vals.now) (named c.run_line.new.parts c.run_line.new.vals) c.in-Asks.ask e
+    (ap (λ ns. ret_mapped (name_in ns) c.args.job.now.ret) takes.1) takes.0

@@ -8,5 +8,5 @@ use Rattle.ak_exec.proofs.job.run_lines.Goals as goal
 pub returns-clause-fits : goal.returns-clause-fits
 returns-clause-fits c =
     rw c.in_ok-returned.ensures
-    (returned_grows c.args.program.now.procs (ret_mapped (name_in c.loop-k.parts.names) c.args.job.now.ret)
+    (returned_grows c.args.program.now.procs (ret_mapped (name_in c.loop-k.parts.names) c.args.running.ret)
     (Num (pos 0)) c.loop-k.parts.plain c.loop-k.invariant.way.ret_fits c.loop-k.invariant.way.fits).fits

@@ -11,9 +11,9 @@ use Rattle.ak_exec.proofs.job.run_lines.Given as goal
 abbrev pub invariant-loop-k : goal.invariant-loop-k
 invariant-loop-k l =
     record {
-      way : IsUnderWay l.program.procs l.parts.plain (named l.parts l.vals) l.job.ctx (ret_mapped (name_in l.parts.names) l.job.ret) (drop l.k l.lines);
-      returns : LinesReturn l.job.ctx (ret_mapped (name_in l.parts.names) l.job.ret) (drop l.k l.lines) l.parts.plain (named l.parts l.vals);
-      runs : run_lines l.job.ctx (ret_mapped (name_in l.initial.parts.names) l.job.ret) l.lines l.initial.parts.plain
-          (named l.initial.parts l.initial.vals) ≡ run_lines l.job.ctx (ret_mapped (name_in l.parts.names) l.job.ret) (drop l.k l.lines) l.parts.plain
+      way : IsUnderWay l.program.procs l.parts.plain (named l.parts l.vals) l.running.ctx (ret_mapped (name_in l.parts.names) l.running.ret) (drop l.k l.lines);
+      returns : LinesReturn l.running.ctx (ret_mapped (name_in l.parts.names) l.running.ret) (drop l.k l.lines) l.parts.plain (named l.parts l.vals);
+      runs : run_lines l.running.ctx (ret_mapped (name_in l.initial.parts.names) l.running.ret) l.lines l.initial.parts.plain
+          (named l.initial.parts l.initial.vals) ≡ run_lines l.running.ctx (ret_mapped (name_in l.parts.names) l.running.ret) (drop l.k l.lines) l.parts.plain
           (named l.parts l.vals);
     }

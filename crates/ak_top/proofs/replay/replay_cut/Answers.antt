@@ -6,18 +6,17 @@ use Rattle.ak_top.proofs.replay.replay_cut.Goals as goal
 
 pub returns-in-Err-clause-caused : goal.returns-in-Err-clause-caused
 returns-in-Err-clause-caused c =
-    rw c.status.ensures (stop_caused c.args.config c.args.script.now (GivesCut c.args.config c.args.script.now c.args.record_bytes.now c.args.first)
-    c.in-Err.stop (λ line kind f. f) (c.in-Err.ensures.stop c.args.config))
+    rw c.status.ensures (stop_caused c.args.script.now (GivesCut c.args.config c.args.script.now c.args.record_bytes.now c.args.first)
+    c.in-Err.stop (λ line kind f. f) c.in-Err.ensures.stop)
 
 pub returns-in-Err-clause-stops : goal.returns-in-Err-clause-stops
-returns-in-Err-clause-stops c = rw c.status.ensures (stop_stops c.args.config c.args.script.now c.in-Err.stop (c.in-Err.ensures.stop c.args.config))
+returns-in-Err-clause-stops c = rw c.status.ensures (stop_stops c.args.script.now c.in-Err.stop c.in-Err.ensures.stop)
 
 pub returns-in-Err-clause-tells : goal.returns-in-Err-clause-tells
 returns-in-Err-clause-tells c =
-    rw c.status.ensures (stop_tells c.args.config c.args.script.now (GivesCut c.args.config c.args.script.now c.args.record_bytes.now c.args.first)
-    c.in-Err.stop (cut_speaks c.args.config c.args.script.now c.args.record_bytes.now c.args.first) (c.in-Err.ensures.stop c.args.config)
-    (λ line kind f. c.in-Err.ensures.refuses c.args.config line kind f)
-    (λ script can. c.in-Err.ensures.accepts script can.is_script can.takes))
+    rw c.status.ensures (stop_tells c.args.script.now (GivesCut c.args.config c.args.script.now c.args.record_bytes.now c.args.first)
+    c.in-Err.stop (cut_speaks c.args.config c.args.script.now c.args.record_bytes.now c.args.first) c.in-Err.ensures.stop
+    c.in-Err.ensures.refuses c.in-Err.ensures.accepts)
 
 pub departed-requires : goal.departed-requires
 departed-requires c =
@@ -27,14 +26,14 @@ departed-requires c =
 pub returns-in-Ok-rerun-clause-tells : goal.returns-in-Ok-rerun-clause-tells
 returns-in-Ok-rerun-clause-tells c =
     meeting_tells c.args.config c.args.script.now c.args.record_bytes.now c.args.first c.in-Ok.program c.in-Ok-read_record.history Yes
-    c.in-Ok.ensures.program (λ line kind f. c.in-Ok.ensures.refuses c.args.config line kind f) c.in-Ok-read_record.ensures.history
+    c.in-Ok.ensures.program c.in-Ok.ensures.refuses c.in-Ok-read_record.ensures.history
     c.in-Ok-read_record.ensures.fault c.in-Ok-rerun.ensures.exact
 
 pub returns-in-Err-Departs-clause-tells : goal.returns-in-Err-Departs-clause-tells
 returns-in-Err-Departs-clause-tells c = λ outcome p.
     rw c.departed.ensures (departure_tells c.in-Err-Departs.departure outcome
     (meeting_tells c.args.config c.args.script.now c.args.record_bytes.now c.args.first c.in-Ok.program c.in-Ok-read_record.history
-    (meeting_of c.in-Err-Departs.departure) c.in-Ok.ensures.program (λ line kind f. c.in-Ok.ensures.refuses c.args.config line kind f)
+    (meeting_of c.in-Err-Departs.departure) c.in-Ok.ensures.program c.in-Ok.ensures.refuses
     c.in-Ok-read_record.ensures.history c.in-Ok-read_record.ensures.fault
     (rw c.in-Err-Departs.field-0-is at c.in-Err-Departs.ensures.exact) outcome p))
 
@@ -42,6 +41,6 @@ pub returns-in-Err-BadHistory-clause-tells : goal.returns-in-Err-BadHistory-clau
 returns-in-Err-BadHistory-clause-tells c = λ outcome p.
     rw c.in-Err-BadHistory.field-0-is
     (fault_tells c.args.config c.args.script.now c.args.record_bytes.now c.args.first c.in-Err-BadHistory.line
-    (λ line kind f. c.in-Ok.ensures.refuses c.args.config line kind f)
+    c.in-Ok.ensures.refuses
     (rw c.in-Err-BadHistory.field-0-is at c.in-Err-BadHistory.ensures.history)
     (rw c.in-Err-BadHistory.field-0-is at c.in-Err-BadHistory.ensures.fault) outcome p)

@@ -1,5 +1,4 @@
 use Rattle.std.proofs.Common.{sym, subst}
-use Rattle.ak_words.specs.declared.command.Command.TheVariants.{Run}
 use Rattle.ak_top.specs.Reading.{script_limit, WasRead}
 use Rattle.ak_top.proofs.Sources.{was_read, source_refuses}
 use Rattle.ak_top.proofs.running.run_source.Goals as goal
@@ -8,4 +7,4 @@ pub returns-in-Ok-clause-refuses : goal.returns-in-Ok-clause-refuses
 returns-in-Ok-clause-refuses g c =
     let read = subst (WasRead (g.S.Source.left c.args.source.now)) (sym c.bytes.ensures)
     (was_read script_limit (g.S.Source.left c.args.source.now) c.in-Ok.text c.in-Ok.ensures.read)
-    in source_refuses (Run c.args.config) (g.S.Source.left c.args.source.now) c.bytes.result.now c.run_bytes.result.0 read c.run_bytes.ensures.refuses
+    in source_refuses (g.S.Source.left c.args.source.now) c.bytes.result.now c.run_bytes.result.0 read c.run_bytes.ensures.refuses

@@ -13,13 +13,16 @@ use Rattle.ak_top.proofs.Usages.{usage_told}
 use Rattle.ak_top.proofs.top.top.Goals as goal
 
 pub run_command-requires-clause-limit : goal.run_command-requires-clause-limit
-run_command-requires-clause-limit g c κs within = has_limit (codes "run") c.args.words.now c.in-Ok-Run.config (rw c.in-Ok-Run.field-0-is at c.in-Ok-Run.ensures.command)
+run_command-requires-clause-limit g c κs within =
+    has_limit (codes "run") c.args.words.now c.in-Ok-Run.config (rw c.in-Ok-Run.field-0-is at c.in-Ok-Run.ensures.command)
 
 pub run_command-requires-clause-threads : goal.run_command-requires-clause-threads
-run_command-requires-clause-threads g c κs within = has_threads (codes "run") c.args.words.now c.in-Ok-Run.config (rw c.in-Ok-Run.field-0-is at c.in-Ok-Run.ensures.command)
+run_command-requires-clause-threads g c κs within =
+    has_threads (codes "run") c.args.words.now c.in-Ok-Run.config (rw c.in-Ok-Run.field-0-is at c.in-Ok-Run.ensures.command)
 
 pub run_command-requires-clause-askers : goal.run_command-requires-clause-askers
-run_command-requires-clause-askers g c κs within = has_no_askers (codes "run") c.args.words.now c.in-Ok-Run.config (rw c.in-Ok-Run.field-0-is at c.in-Ok-Run.ensures.command)
+run_command-requires-clause-askers g c κs within =
+    has_no_askers (codes "run") c.args.words.now c.in-Ok-Run.config (rw c.in-Ok-Run.field-0-is at c.in-Ok-Run.ensures.command)
 
 pub run_command-requires-clause-hands : goal.run_command-requires-clause-hands
 run_command-requires-clause-hands g c κs within =

@@ -8,7 +8,6 @@ pub invariant_of-result : goal.invariant_of-result
 invariant_of-result c =
     let e : c.enqueue.new.self.plain ≡ first_state c.args.program c.args.config = search rules
     in record {
-      built = search rules;
       limit = search rules;
       askers = search rules;
       fits = search rules;

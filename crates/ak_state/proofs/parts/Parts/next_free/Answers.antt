@@ -1,0 +1,21 @@
+use Rattle.std.proofs.Common.{ap, sym, ◌∙◌}
+use Rattle.ak_base.specs.Lists.{first_of}
+use Rattle.ak_pipe.specs.Pipe.{freed_pushbacks, freed_taken}
+use Rattle.ak_cells.specs.Names.{name_in, trimmed}
+use Rattle.ak_streams.specs.Pipes.{pipe_in}
+use Rattle.ak_state.specs.Seen.{other_lists}
+use Rattle.ak_state.proofs.Pipes.{seen_piped, pipe_seen, free_given_mapped, free_taken_mapped}
+use Rattle.ak_state.proofs.parts.Parts.next_free.Goals as goal
+
+pub returns-clause-first : goal.returns-clause-first
+returns-clause-first c =
+    let f = name_in (trimmed c.self.inside.cells.named.names)
+    in let all = c.self.inside.lists.pipes
+    in rw (← c.self.view_is, c.next_free.ensures.front)
+    (free_given_mapped f (pipe_in c.args.p all) ∙ ap (λ x. first_of (freed_pushbacks x)) (sym (pipe_seen f all c.args.p)))
+
+pub returns-clause-rest : goal.returns-clause-rest
+returns-clause-rest c =
+    rw (← c.self.view_is, c.next_free.ensures.rest)
+    (seen_piped c.self.inside.cells.named c.self.inside.queues.queues c.self.inside.trace (other_lists c.self.inside.lists) c.args.p freed_taken freed_taken
+    (free_taken_mapped (name_in (trimmed c.self.inside.cells.named.names))))
