@@ -1,17 +1,15 @@
 //! The program: the words after its name, standard input, standard output and the exit status.
 #![tactic(auto)]
 
-mod streams;
-
 ghost use Rattle.std.specs.Prelude.{◌≡◌, length, IfOk};
 ghost use Rattle.std.specs.List.{AllByRecursion};
 
-use crate::streams::{StdSink, StdSource};
-use ak_base::list::{Items, Word};
+use ak_base::list::Word;
 use ak_labor::labor::{Plain, plain_hands};
+use ak_std::streams::{StdSink, StdSource};
+use ak_std::words::command_words;
 use ak_top::status::{Status, message};
 use ak_top::top::top;
-use std::env;
 use std::io::{self, Write};
 use std::process::ExitCode;
 
@@ -50,17 +48,6 @@ fn words_and_hands(rt: &HostRuntime) -> io::Result<(Vec<Word>, Vec<Plain>)>
     let words = command_words(rt)?;
     let hands = plain_hands(rt.alloc(), 32)?;
     Ok((words, hands))
-}
-
-/// The words after the program's name.
-fn command_words(rt: &HostRuntime) -> io::Result<Vec<Word>> {
-    let mut words = Vec::new(rt.alloc());
-    for (place, word) in env::args(rt)?.enumerate() {
-        if place > 0 {
-            words.push(Items::from_vec(word.into_bytes()))?;
-        }
-    }
-    Ok(words)
 }
 
 /// Prints the message of a status on standard error, where it has one. Where there is no memory for it, or standard

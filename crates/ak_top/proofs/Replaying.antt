@@ -32,7 +32,7 @@ use Rattle.ak_top.specs.declared.status.Report.{Report}
 use Rattle.ak_top.specs.declared.stop.Stop.{Stop}
 use Rattle.ak_top.specs.declared.stop.Stop.TheVariants as stop
 use Rattle.ak_top.specs.Headline.{IsScript, RunsTo, program_of}
-use Rattle.ak_top.specs.Reading.{Had, Began, WasReadTo}
+use Rattle.ak_reading.specs.Reading.{Had, Began, WasReadTo}
 use Rattle.ak_top.specs.Refusals.{ScriptFault}
 use Rattle.ak_top.specs.Replays.{source_limit, Outcome, Refuses, Spoils, Goes, IsSpoilt, DoMeet, GivesCut, GivesUncut, IsTooLong, FromCut, FromUncut, Gives, GivesFrom, GivesTold, RunsOver, ReplaysTo, IsReplay, HasCause, Tells, ReportsReplay, IsStop, AnswerTells, IsPlaced, status_departed}
 use Rattle.ak_top.specs.Reports.{is_carried_out, Shows, EndsWell}

@@ -7,12 +7,12 @@ use Rattle.ak_script.specs.declared.script.Proc.{Proc}
 use Rattle.ak_syntax.specs.declared.refusal.GrammarKind.{GrammarKind}
 use Rattle.ak_syntax.specs.declared.refusal.GrammarKind.TheVariants.{TooLong}
 use Rattle.ak_syntax.specs.Faults.{GrammarFault, kind_number}
-use Rattle.ak_top.specs.declared.reading.Text.{Text}
-use Rattle.ak_top.specs.declared.reading.Text.TheVariants as text
+use Rattle.ak_reading.specs.declared.reading.Text.{Text}
+use Rattle.ak_reading.specs.declared.reading.Text.TheVariants as text
 use Rattle.ak_top.specs.declared.stop.Stop.{Stop}
 use Rattle.ak_top.specs.declared.stop.Stop.TheVariants.{ReadFault, Refused, NoMemory}
 use Rattle.ak_top.specs.Headline.{IsScript}
-use Rattle.ak_top.specs.Reading.{script_limit, Had, Began, WasReadTo, WasRead, IsRead, read_bytes}
+use Rattle.ak_reading.specs.Reading.{script_limit, Had, Began, WasReadTo, WasRead, IsRead, read_bytes}
 use Rattle.ak_top.specs.Refusals.{ScriptFault, IsRefused, TellsFault, TellsScript}
 use Rattle.ak_top.specs.Stops.{IsNoProgram, IsStop, Refuses, Accepts}
 

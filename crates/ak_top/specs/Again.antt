@@ -9,7 +9,7 @@ use Rattle.ak_meets.specs.Meets.{Yes}
 use Rattle.ak_again.specs.Ends.{with_line_end}
 use Rattle.ak_top.specs.declared.status.Report.{Report}
 use Rattle.ak_top.specs.Output.{pool_line}
-use Rattle.ak_top.specs.Reading.{script_limit}
+use Rattle.ak_reading.specs.Reading.{script_limit}
 use Rattle.ak_top.specs.Replays.{source_limit, Goes, GivesTold, ReportsReplay}
 use Rattle.ak_top.specs.Reports.{is_carried_out}
 

@@ -13,7 +13,7 @@ use Rattle.ak_labor.specs.declared.config.Config.{Config}
 use Rattle.ak_machine.specs.Run.{Run, HasEnded, run_of}
 use Rattle.ak_history_laws.specs.Once.{StartOnce}
 use Rattle.ak_laws.specs.Laws.{ObeysLaws}
-use Rattle.ak_top.specs.Reading.{Had}
+use Rattle.ak_reading.specs.Reading.{Had}
 
 -- the bytes are a valid script
 pub record IsScript (bytes : List ℕ) (script : List Proc) : Type 0 where

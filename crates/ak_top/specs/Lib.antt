@@ -3,7 +3,6 @@ pub mod Again
 pub mod Commands
 pub mod Hands
 pub mod Output
-pub mod Reading
 pub mod Replays
 pub mod Reports
 pub mod Status

@@ -6,7 +6,7 @@ use Rattle.ak_syntax.specs.Faults.{GrammarFault, kind_number}
 use Rattle.ak_syntax.specs.Grammar.{Reads}
 use Rattle.ak_valid.specs.Faults.{ValidFault}
 use Rattle.ak_top.specs.Headline.{IsScript}
-use Rattle.ak_top.specs.Reading.{Had, WasRead}
+use Rattle.ak_reading.specs.Reading.{Had, WasRead}
 
 -- a fault of the grammar, or of a script that reads: its line and its kind
 abbrev pub ScriptFault : List ℕ → ℕ → ℕ → Type 0

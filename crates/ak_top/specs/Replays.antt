@@ -16,7 +16,7 @@ use Rattle.ak_top.specs.declared.status.Status.{Status}
 use Rattle.ak_top.specs.declared.status.Status.TheVariants as status
 use Rattle.ak_top.specs.declared.status.Report.{Report}
 use Rattle.ak_top.specs.Headline.{IsScript, RunsTo, program_of}
-use Rattle.ak_top.specs.Reading.{Had, WasReadTo}
+use Rattle.ak_reading.specs.Reading.{Had, WasReadTo}
 use Rattle.ak_top.specs.Refusals.{ScriptFault}
 use Rattle.ak_top.specs.Reports.{is_carried_out, Shows}
 

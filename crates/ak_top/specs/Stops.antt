@@ -9,8 +9,8 @@ use Rattle.ak_valid.specs.declared.refusal.ValidRefused.{ValidRefused}
 use Rattle.ak_valid.specs.declared.refusal.ValidRefused.TheVariants as valid
 use Rattle.ak_syntax.specs.Grammar.{Reads}
 use Rattle.ak_program.specs.Programs.{NumProgram}
-use Rattle.ak_top.specs.declared.reading.ReadError.{ReadError}
-use Rattle.ak_top.specs.declared.reading.ReadError.TheVariants as read
+use Rattle.ak_reading.specs.declared.reading.ReadError.{ReadError}
+use Rattle.ak_reading.specs.declared.reading.ReadError.TheVariants as read
 use Rattle.ak_top.specs.declared.status.Status.{Status}
 use Rattle.ak_top.specs.declared.status.Status.TheVariants as status
 use Rattle.ak_top.specs.declared.stop.Stop.{Stop}

@@ -3,7 +3,6 @@
 
 pub mod check;
 pub mod law;
-pub mod reading;
 pub mod replay;
 pub mod running;
 pub mod status;

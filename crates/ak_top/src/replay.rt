@@ -14,7 +14,6 @@ ghost use Rattle.ak_top.specs.Replays.{Outcome, Goes, Gives, GivesCut, GivesUncu
 ghost use Rattle.ak_top.specs.Reports.{is_carried_out, Took, EndsWell};
 
 use crate::check::without_run;
-use crate::reading::{RECORD_LIMIT, Text, read_source};
 use crate::running::{Ran, load};
 use crate::status::{Report, Status};
 use crate::stop::Stop;
@@ -23,6 +22,7 @@ use ak_base::list::Word;
 use ak_base::sink::Sink;
 use ak_base::source::Source;
 use ak_labor::config::Config;
+use ak_reading::reading::{RECORD_LIMIT, Text, read_source};
 use ak_record::cut::cut_at_pool;
 use ak_record::record::{RecordRefused, read_record};
 use ak_replay::port::Departure;

@@ -3,8 +3,8 @@
 ghost use Rattle.std.specs.Prelude.{◌≡◌};
 ghost use Rattle.ak_top.specs.Stops.{status_at};
 
-use crate::reading::ReadError;
 use crate::status::Status;
+use ak_reading::reading::ReadError;
 use ak_syntax::refusal::ParseRefused;
 use ak_valid::refusal::ValidRefused;
 

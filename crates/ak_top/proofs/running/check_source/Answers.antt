@@ -1,5 +1,5 @@
 use Rattle.std.proofs.Common.{sym, subst}
-use Rattle.ak_top.specs.Reading.{script_limit, WasRead}
+use Rattle.ak_reading.specs.Reading.{script_limit, WasRead}
 use Rattle.ak_top.proofs.Sources.{was_read, source_refuses}
 use Rattle.ak_top.proofs.running.check_source.Goals as goal
 

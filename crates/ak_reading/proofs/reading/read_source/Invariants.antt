@@ -1,6 +1,6 @@
 use Rattle.std.proofs.Common.{◌≡◌, ◌≤◌, ◌+◌, ◌-◌, vec_len}
 use Rattle.ak_base.specs.Streams.{with_front}
-use Rattle.ak_top.proofs.reading.read_source.Given as goal
+use Rattle.ak_reading.proofs.reading.read_source.Given as goal
 
 -- the bytes so far and what is left are what the source had
 abbrev pub invariant-loop-room : goal.invariant-loop-room

@@ -1,10 +1,10 @@
 -- What is read of a source. Own.
 use Rattle.std.specs.Prelude.{ℕ, ◌<◌, ◌≤◌, List, ◌++◌, ◌≡◌, ◌⊎◌, length, Option, IfSome}
 use Rattle.ak_base.specs.Streams.{Rose}
-use Rattle.ak_top.specs.declared.reading.Text.{Text}
-use Rattle.ak_top.specs.declared.reading.Text.TheVariants.{Whole, TooLong}
-use Rattle.ak_top.specs.declared.reading.ReadError.{ReadError}
-use Rattle.ak_top.specs.declared.reading.ReadError.TheVariants.{Failed, NoMemory}
+use Rattle.ak_reading.specs.declared.reading.Text.{Text}
+use Rattle.ak_reading.specs.declared.reading.Text.TheVariants.{Whole, TooLong}
+use Rattle.ak_reading.specs.declared.reading.ReadError.{ReadError}
+use Rattle.ak_reading.specs.declared.reading.ReadError.TheVariants.{Failed, NoMemory}
 
 -- the most bytes that a script may have
 abbrev pub script_limit : ℕ

@@ -2,7 +2,7 @@
 
 ghost use Rattle.std.specs.Prelude.{◌≡◌, ◌<◌, ◌≤◌, [], length, IfOk, IfErr, IfSome};
 ghost use Rattle.ak_base.specs.Streams.{Rose, with_front};
-ghost use Rattle.ak_top.specs.Reading.{Had, Began, IsRead, IsRefusal, read_bytes};
+ghost use Rattle.ak_reading.specs.Reading.{Had, Began, IsRead, IsRefusal, read_bytes};
 
 use ak_base::list::NoMemory;
 use ak_base::source::{ReadFailed, Source};
@@ -45,7 +45,7 @@ pub enum ReadError {
 
 impl From<AllocError> for ReadError {
     ghost use Rattle.std.specs.Prelude.{◌≡◌};
-    ghost use Rattle.ak_top.specs.declared.reading.ReadError.TheVariants.{NoMemory};
+    ghost use Rattle.ak_reading.specs.declared.reading.ReadError.TheVariants.{NoMemory};
 
     ghost from_gives = { λ _ e. e ≡ NoMemory };
 
@@ -56,7 +56,7 @@ impl From<AllocError> for ReadError {
 
 impl From<ReadFailed> for ReadError {
     ghost use Rattle.std.specs.Prelude.{◌≡◌};
-    ghost use Rattle.ak_top.specs.declared.reading.ReadError.TheVariants.{Failed};
+    ghost use Rattle.ak_reading.specs.declared.reading.ReadError.TheVariants.{Failed};
 
     ghost from_gives = { λ _ e. e ≡ Failed };
 

@@ -1,0 +1,4 @@
+pub mod Compiling
+pub mod Status
+pub mod Stops
+pub mod Words
