@@ -6,7 +6,6 @@ use ak_base::memory::{MemSink, MemSource};
 use ak_labor::labor::plain_hands;
 use ak_let_script::compile::compile;
 use ak_let_syntax::refusal::LetRefused;
-use ak_text::text::lines as lines_of;
 use ak_top::top::top;
 use std::alloc::Global;
 use std::sync::Wait;
@@ -49,14 +48,12 @@ fn run_gives<R: Threads + Wait + Sync>(
 // The numbers that an output has as printed, with blanks between them.
 fn prints_of(alloc: Global, output: &[u8]) -> Result<Vec<u8>, NoMemory> {
     let mut prints = Vec::new(alloc);
-    for line in lines_of(output) {
-        if line.word(0) == Some(b"print".as_slice()) {
-            if let Some(number) = line.word(1) {
-                if !prints.is_empty() {
-                    prints.push(b' ')?;
-                }
-                prints.extend_from_slice(number)?;
+    for line in output.split(|byte| *byte == b'\n') {
+        if line.starts_with(b"print ") {
+            if !prints.is_empty() {
+                prints.push(b' ')?;
             }
+            prints.extend_from_slice(line.get(6..).unwrap_or(&[]))?;
         }
     }
     Ok(prints)

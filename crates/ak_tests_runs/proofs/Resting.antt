@@ -1,5 +1,5 @@
 -- Hands and passes as threads begin with them, and passes as they end.
-use Rattle.std.proofs.Common.{◌≡◌, ℕ, zero, suc, ◌+◌, ◌≤◌, List, [], ◌∷◌, ◌++◌, length, length-append, refl, sym, ap, subst, arith}
+use Rattle.std.proofs.Common.{◌≡◌, ℕ, zero, suc, ◌≤◌, List, [], ◌∷◌, ◌++◌, length, refl, sym, ap, subst, arith}
 use Rattle.std.specs.List.{AllByRecursion}
 use Rattle.ak_history.specs.declared.event.Event.{Event}
 use Rattle.ak_turn.specs.Seen.{TurnView, PassView, IsIdleOf}
@@ -34,14 +34,3 @@ module _ {L : Type 0} (carried : L → ℕ) (h : HubState) where
       more : (ps : List (PassView Event)) → AllByRecursion (IsIdleOf h.turn) ps → AllByRecursion (IsIdleOf h.turn) (ps ++ p ∷ [])
       more [] h = (one, tt)
       more (q ∷ ps) h = (h.0, more ps h.1)
-
--- ---- hands that are made one after another
-pub all_more : {A : Type 0} (P : A → Type 0) (xs ys : List A) (x : A) → ys ≡ xs ++ x ∷ [] → AllByRecursion P xs → P x → AllByRecursion P ys
-all_more P xs ys x now all one = subst (AllByRecursion P) (sym now) (more xs all)
-  where
-    more : (zs : List A) → AllByRecursion P zs → AllByRecursion P (zs ++ x ∷ [])
-    more [] h = (one, tt)
-    more (z ∷ zs) h = (h.0, more zs h.1)
-
-pub one_longer : {A : Type 0} (xs ys : List A) (x : A) (n : ℕ) → ys ≡ xs ++ x ∷ [] → length xs ≡ n → length ys ≡ n + 1
-one_longer xs ys x n now size = omega (arith, ap length now, length-append xs (x ∷ []), size)

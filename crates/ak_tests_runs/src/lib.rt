@@ -18,13 +18,9 @@ mod hubs;
 #[cfg(test)]
 mod meeting;
 #[cfg(test)]
-mod outside;
-#[cfg(test)]
 mod pipes;
 #[cfg(test)]
 mod replays;
-#[cfg(test)]
-mod threads;
 #[cfg(test)]
 mod throttles;
 #[cfg(test)]

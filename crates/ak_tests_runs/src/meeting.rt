@@ -1,16 +1,8 @@
 //! Hands whose works wait for one another: only two threads that run at once can do them.
 
-ghost use Rattle.std.specs.Prelude.{◌≡◌, length, IfOk};
-ghost use Rattle.std.specs.List.{AllByRecursion};
-
-use crate::commands::{is_alike, lines, words_of};
-use ak_base::list::NoMemory;
-use ak_base::memory::{MemSink, MemSource};
+use crate::works::serve;
 use ak_labor::labor::{Labor, Plain};
 use ak_labor::work::{Outcome, Work, WorkKind};
-use ak_top::status::Status;
-use ak_top::top::top;
-use std::alloc::Global;
 use std::hint;
 use std::sync::atomic::{AtomicU64, Ordering};
 use std::test::*;
@@ -69,32 +61,32 @@ impl<'a> Labor for Meeter<'a> {
     }
 }
 
-// A hand for each thread that a pool may have.
-fn meeters(alloc: Global, meeting: &Meeting) -> Result<Vec<Meeter<'_>>, NoMemory>
-    ensures count { IfOk result (λ hands. length hands.items ≡ 32) }
-    ensures fresh { IfOk result (λ hands. AllByRecursion (λ hand. hand.plain ≡ 0) hands.items) }
-{
-    let mut hands = Vec::with_capacity(alloc, 32)?;
-    for _ in 0..32 {
-        hands.push_reserved(Meeter {
-            meeting,
-            plain: Plain::make(),
-        });
-    }
-    Ok(hands)
-}
-
 #[test]
-fn two_threads_meet(rt: HostRuntime) -> Result<(), NoMemory> {
+fn two_threads_meet(rt: HostRuntime) -> Result<(), Fail> {
     let alloc = rt.alloc();
     let meeting = Meeting::make();
-    let hands = meeters(alloc, &meeting)?;
-    let words = words_of(alloc, &["run", "--threads", "2"])?;
-    let script = lines(alloc, "proc main; work a mix 1; work b mix 2; end")?;
-    let mut source = MemSource::make(script, 4096, Vec::new(alloc));
-    let mut sink = MemSink::make(alloc, 4096, 4096, Vec::new(alloc))?;
-    let (report, _hands) = top(&rt, alloc, words.as_slice(), &mut source, &mut sink, hands);
-    assert!(rt; is_alike(alloc, &report.status, &Status::Done)?);
+    let hands = vec![in alloc;
+        Meeter {
+            meeting: &meeting,
+            plain: Plain::make()
+        },
+        Meeter {
+            meeting: &meeting,
+            plain: Plain::make()
+        },
+    ]?;
+    let works = [
+        Work {
+            kind: WorkKind::Mix,
+            num: 1,
+        },
+        Work {
+            kind: WorkKind::Mix,
+            num: 2,
+        },
+    ];
+    let served = serve(&rt, alloc, 2, hands, &works)?;
+    assert_eq!(rt; served.arrived.len(), 2);
     assert_eq!(rt; meeting.missed.load(Ordering::SeqCst), 0);
     assert_eq!(rt; meeting.first.load(Ordering::SeqCst), 1);
     assert_eq!(rt; meeting.second.load(Ordering::SeqCst), 1);
