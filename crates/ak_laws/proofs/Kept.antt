@@ -14,7 +14,8 @@ use Rattle.ak_trace.specs.declared.entry.Entry.TheVariants as entry
 use Rattle.ak_machine.specs.declared.held.Outstanding.{Outstanding}
 use Rattle.ak_machine.specs.State.{State}
 use Rattle.ak_machine.specs.Mapped.{state_renamed}
-use Rattle.ak_machine.specs.Deferred.{noting, enqueue, fill, fill_empty}
+use Rattle.ak_machine.specs.Deferred.{noting, enqueue, fill_empty}
+use Rattle.ak_machine.specs.Pipes.{with_pipe, with_pipe_at}
 use Rattle.ak_machine.specs.Works as works
 use Rattle.ak_machine.specs.Cycle.{is_work, is_other_work, request_arrived}
 use Rattle.ak_labor.specs.declared.ask.Ask.{Ask}
@@ -54,6 +55,13 @@ pub record Kept (B : ℕ → Outcome → Type 0) (P : State → Type 0) : Type 0
   pub request : (ask q : ℕ) (n : ℤ) (s : State) → (q == length s.requests) ≡ true → P s → P (request_arrived ask q n s)
   pub change : (s u : State) → parts_of u ≡ parts_of s → P s → P u
 
+-- kept by the small changes of a state, and by what a drain brings
+pub record Arriving (B : ℕ → Outcome → Type 0) (P : State → Type 0) : Type 0 where
+  pub still : Still P
+  pub arrive : (w : ℕ) (outcome : Outcome) (work : Outstanding) (s : State) → B w outcome → find (is_work w) s.works ≡ Some work → P s
+      → P (noting (entry.Arrive w outcome) (record s { works = filter (is_other_work w) s.works }))
+  pub request : (ask q : ℕ) (n : ℤ) (s : State) → (q == length s.requests) ≡ true → P s → P (request_arrived ask q n s)
+
 abbrev parts_from : Aspects → Parts
 parts_from a = record {
   queues = a.queues;
@@ -77,14 +85,19 @@ module _ (B : ℕ → Outcome → Type 0) (P : State → Type 0) (k : Kept B P) 
     forget = k.forget;
     fill = k.fill;
     join = k.join;
-    change = λ s u e p. k.change s u (ap parts_from e) p;
+    change = λ s u e t p. k.change s u (ap parts_from e) p;
   }
+
+  pub arriving_of : Arriving B P
+  arriving_of = record { still = still_of; arrive = k.arrive; request = k.request }
 
   pub asks_of : AsksWell P (Each P)
   asks_of = record {
     work = λ ctx to work helper s h p. k.submit ctx to work helper s p;
     helper = λ s p. p;
     done = λ h s e p. k.change s (works.helper_ended h s) refl p;
+    new_pipe = λ room s p. k.change s (with_pipe room s) refl p;
+    other_pipe = λ i x s p. k.change s (with_pipe_at i x s) refl p;
   }
 
   pub with_helper_keeps : (granted : Bool) (s : State) → P s → P (works.with_helper granted s)

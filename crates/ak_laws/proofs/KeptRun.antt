@@ -33,9 +33,10 @@ use Rattle.ak_machine.specs.Cycle.{cycle_begun, has_more, is_stuck, is_quiet, re
 use Rattle.ak_machine.specs.Cycle.{served_by, with_left, arrival_of, arrive, arrive_all, is_work, is_other_work}
 use Rattle.ak_machine.specs.Run.{Place, AtDrain, AtJob, AtClose, Ended as HasClosed, Wrong, Machine, went, progressed, cycle_ended, picked, served}
 use Rattle.ak_machine.specs.Run.{drained, gone_on, job_answered, stepped_at, stepped, begun, machine_after}
-use Rattle.ak_ledger.proofs.Still.{Ended, AfterHas, called_keeps, yields_filled_keeps, alarms_filled_keeps}
+use Rattle.ak_ledger.proofs.Still.{Ended, AfterHas, called_keeps}
 use Rattle.ak_ledger.proofs.Lines.{ProgressHas, lines_keep, frame_keeps, outcome_keeps}
-use Rattle.ak_laws.proofs.Kept.{Kept, Each, still_of, asks_of, with_helper_keeps}
+use Rattle.ak_ledger.proofs.Waiting.{cycle_still}
+use Rattle.ak_laws.proofs.Kept.{Kept, Arriving, Each, still_of, arriving_of, asks_of, with_helper_keeps}
 
 -- the works of a drain, where each was outstanding
 abbrev pub ArrivedHas : (P : State → Type 0) → Option After → Type 0
@@ -79,12 +80,12 @@ pub record KeptByRuns (B : ℕ → Outcome → Type 0) (limit : ℕ) (P : State 
       → P (answered q (value_or_zero job.frame.value) (left_by job s))
   pub first : (askers : ℕ) → P (initial_state limit askers)
 
-module _ (B : ℕ → Outcome → Type 0) (P : State → Type 0) (k : Kept B P) where
+module _ (B : ℕ → Outcome → Type 0) (P : State → Type 0) (k : Arriving B P) where
   arrival_keeps : (found : Option Outstanding) (w : ℕ) (o : Outcome) (s : State) → B w o → find (is_work w) s.works ≡ found → P s
       → ArrivedHas P (arrival_of found w o s)
   arrival_keeps None w o s b e p = tt
   arrival_keeps (Some work) w o s b e p =
-      outcome_keeps P (Each P) (still_of B P k) (asks_of B P k) o work (noting (entry.Arrive w o) (record s { works = filter (is_other_work w) s.works }))
+      outcome_keeps P (Each P) k.still o work (noting (entry.Arrive w o) (record s { works = filter (is_other_work w) s.works }))
       (k.arrive w o work s b e p)
 
   -- what comes of the works behind one, given that they keep
@@ -110,7 +111,7 @@ module _ (B : ℕ → Outcome → Type 0) (P : State → Type 0) (k : Kept B P) 
   arrival_goes_on pairs h None q = tt
   arrival_goes_on pairs h (Some after) q = flow_goes_on pairs h after after.flow refl q
 
-  arrive_all_keeps : (pairs : List (ℕ × Outcome)) (s : State) → AllByRecursion (IsBrought B) pairs → P s → ArrivedHas P (arrive_all pairs s)
+  pub arrive_all_keeps : (pairs : List (ℕ × Outcome)) (s : State) → AllByRecursion (IsBrought B) pairs → P s → ArrivedHas P (arrive_all pairs s)
   arrive_all_keeps [] s b p = p
   arrive_all_keeps (pair ∷ pairs) s b p =
       arrival_goes_on pairs (λ t q. arrive_all_keeps pairs t b.1 q) (arrive pair.0 pair.1 s)
@@ -139,9 +140,7 @@ module _ (B : ℕ → Outcome → Type 0) (P : State → Type 0) (k : Kept B P) 
 
 module _ (B : ℕ → Outcome → Type 0) (P : State → Type 0) (limit : ℕ) (k : KeptByRuns B limit P) where
   cycle_keeps : (s : State) → P s → P (cycle_begun s)
-  cycle_keeps s p =
-      let noted : State = noting entry.Cycle (record s { queues = recounted s.queues })
-      in alarms_filled_keeps P (still_of B P k.kept) _ (yields_filled_keeps P (still_of B P k.kept) noted (k.cycle s p))
+  cycle_keeps s p = cycle_still P (still_of B P k.kept) s (k.cycle s p)
 
   went_keeps : (after : After) (m : Machine) → AfterHas P after.flow after.state → MachineHas P (went after m)
   went_keeps after m p = by after.flow p
@@ -193,7 +192,7 @@ module _ (B : ℕ → Outcome → Type 0) (P : State → Type 0) (limit : ℕ) (
       by : (f : Flow) → AfterHas P f after.state → MachineHas P (drained program config arrived (Some (record { state = after.state; flow = f })) m)
       by flow.On q =
           served_keeps program config _ arrived.left m
-          (requests_keep B P k.kept (served_by program.ask config.askers) arrived.requests after.state q)
+          (requests_keep B P (arriving_of B P k.kept) (served_by program.ask config.askers) arrived.requests after.state q)
       by flow.Stopped q = q
       by (flow.Unhandled e) q = q
 
@@ -219,7 +218,7 @@ module _ (B : ℕ → Outcome → Type 0) (P : State → Type 0) (limit : ℕ) (
   stepped_keeps : (program : NumProgram) (config : Config) (place : Place) (reply : Reply) (m : Machine) → Brings B reply → PlaceHas P place m.state
       → MachineHas P (stepped_at program config place reply m)
   stepped_keeps program config AtDrain (Drained arrived) m b p =
-      drained_keeps program config arrived _ m (arrive_all_keeps B P k.kept arrived.works m.state b p)
+      drained_keeps program config arrived _ m (arrive_all_keeps B P (arriving_of B P k.kept) arrived.works m.state b p)
   stepped_keeps program config AtDrain (Granted g) m b p = tt
   stepped_keeps program config AtDrain Done m b p = tt
   stepped_keeps program config (AtJob a rest) reply m b p = reply_keeps a reply rest m p
@@ -246,7 +245,7 @@ module _ (B : ℕ → Outcome → Type 0) (P : State → Type 0) (limit : ℕ) (
 abbrev pub anything : ℕ → Outcome → Type 0
 anything w outcome = Unit {0}
 
-pairs_bring : (pairs : List (ℕ × Outcome)) → AllByRecursion (IsBrought anything) pairs
+pub pairs_bring : (pairs : List (ℕ × Outcome)) → AllByRecursion (IsBrought anything) pairs
 pairs_bring [] = tt
 pairs_bring (pair ∷ pairs) = (tt, pairs_bring pairs)
 

@@ -18,3 +18,8 @@ pub mod Routing
 pub mod RoutingParts
 pub mod RoutingLines
 pub mod RoutingRun
+pub mod Told
+pub mod Reading
+pub mod Calling
+pub mod Walking
+pub mod ReadingRun

@@ -1,9 +1,12 @@
 pub mod Ends
 pub mod Errors
+pub mod Executed
 pub mod Jobs
 pub mod Laws
 pub mod Order
 pub mod Places
+pub mod ReadRow
+pub mod Reads
 pub mod Requests
 pub mod Works
 pub mod Traces

@@ -5,13 +5,15 @@ ghost use Rattle.std.specs.List.{AllByRecursion};
 ghost use Rattle.ak_labor.specs.Calls.{Reply};
 ghost use Rattle.ak_program.specs.Programs.{NumProgram, ProgramIsSound};
 ghost use Rattle.ak_labor.specs.declared.config.Config.{Config};
-ghost use Rattle.ak_machine.specs.Run.{HasEnded, run_of};
+ghost use Rattle.ak_machine.specs.Run.{HasEnded, run_of, machine_after};
 ghost use Rattle.ak_laws.specs.Ends.{EndsOnce};
 ghost use Rattle.ak_laws.specs.Order.{IsInOrder};
 ghost use Rattle.ak_laws.specs.Jobs.{JobsInOrder, CyclesAreLimited};
 ghost use Rattle.ak_laws.specs.Requests.{RequestsAreServed};
 ghost use Rattle.ak_laws.specs.Works.{BringsValues, WorksArriveOnce};
 ghost use Rattle.ak_laws.specs.Errors.{path_from, path_in, ErrorsGoUp};
+ghost use Rattle.ak_laws.specs.Executed.{executed};
+ghost use Rattle.ak_laws.specs.Reads.{ReadsGetWhatWasWritten};
 ghost use Rattle.ak_laws.specs.Laws.{ObeysLaws};
 
 use ak_holders::law::fills_once;
@@ -86,6 +88,14 @@ pub fn errors_go_up()
     ensures { (program : NumProgram) → ProgramIsSound program.procs program.main program.ask
         → (config : Config) (replies : List Reply) → (run_of program config replies).outcome ≡ HasEnded
         → ErrorsGoUp (run_of program config replies).trace }
+{}
+
+/// In every run, at each reply and for each pipe, what its reads got is what was written to it, in order, each number once: the
+/// numbers that they got are the first that were written, and while its reader is open the others are its items. Each read that gets
+/// a number is called with it. From Async's documentation of `Pipe`.
+pub fn reads_get_what_was_written()
+    ensures { (program : NumProgram) (config : Config) (replies : List Reply) (p : ℕ)
+        → ReadsGetWhatWasWritten p (executed program config replies) (machine_after program config replies).state }
 {}
 
 /// The trace of every run that has ended, of a sound program, obeys the laws that no reply can break: it ends once, its jobs are in

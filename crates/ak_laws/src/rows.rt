@@ -1,10 +1,12 @@
 //! Small traces that obey the law of errors, and such as break it. The bodies are empty: each contract is what the law
 //! says of them.
 
-ghost use Rattle.std.specs.Prelude.{pos, [], ◌∷◌, ◌++◌};
+ghost use Rattle.std.specs.Prelude.{◌≡◌, pos, [], ◌∷◌, ◌++◌};
 ghost use Rattle.ak_laws.specs.Errors.{ErrorsGoUp};
 ghost use Rattle.ak_laws.specs.Traces.{one_detached, both_detached, one_attached};
 ghost use Rattle.ak_laws.specs.Traces.{caught, unhandled, filled, dropped, handled, Obeys, Breaks};
+ghost use Rattle.ak_laws.specs.ReadRow.{executed_after};
+ghost use Rattle.ak_laws.specs.Reads.{written_to, reads_of, got_from};
 
 use ak_trace::entry::{Ending, Entry};
 
@@ -64,4 +66,15 @@ pub fn dropped_was_caught()
     ensures not_later { Breaks one_detached 2 (caught 1 ++ Entry.Job 1 ∷ dropped (pos 5)) }
     ensures filled_with_it { Breaks one_detached 2 (caught 1 ++ filled (pos 6) ++ dropped (pos 5)) }
     ensures filled_first { Breaks one_detached 2 (handled ++ filled (pos 5) ++ dropped (pos 5)) }
+{}
+
+/// Of the numbers that a worked run writes to a pipe its reads get the first three, in the order in which they were made: two that
+/// wait, the older one first, and one that finds an item. What is written to another pipe is its own, and a closed one takes nothing.
+pub fn row_reads_of_a_pipe()
+    ensures written { written_to 0 (executed_after 5) ≡ pos 5 ∷ pos 6 ∷ pos 7 ∷ pos 8 ∷ [] }
+    ensures reads { reads_of 0 (executed_after 5) ≡ 1 ∷ 5 ∷ 1 ∷ [] }
+    ensures got { got_from 0 (executed_after 5) ≡ (1, pos 5) ∷ (5, pos 6) ∷ (1, pos 7) ∷ [] }
+    ensures got_before { got_from 0 (executed_after 3) ≡ (1, pos 5) ∷ (5, pos 6) ∷ [] }
+    ensures written_other { written_to 1 (executed_after 5) ≡ pos 9 ∷ [] }
+    ensures got_other { got_from 1 (executed_after 5) ≡ [] }
 {}

@@ -1,10 +1,10 @@
 -- One more call with its reply: what is out, which helpers are active, and which requests wait.
-use Rattle.std.proofs.Common.{◌≡◌, ℕ, zero, suc, ◌+◌, ◌<◌, ◌≤◌, ◌||◌, ◌&&◌, get_or, Bool, true, false, cond, List, [], ◌∷◌, ◌++◌, length, map, filter, refl, sym, subst, ap, ◌∙◌, arith, append-nil, Option, Some, None, fold}
+use Rattle.std.proofs.Common.{◌≡◌, ℕ, zero, suc, ◌+◌, ◌<◌, ◌≤◌, ◌||◌, ◌&&◌, get_or, Bool, true, false, cond, List, [], ◌∷◌, ◌++◌, length, filter, refl, sym, ap, ◌∙◌, arith, append-nil, Option, Some, None, fold}
 use Rattle.std.specs.Prelude.{not, ◌==◌}
 use Rattle.std.specs.List.{AllByRecursion, list_any, cons_option, filter_map, flat_map, zip}
 use Rattle.std.proofs.lemmas.Bool.{eqb-true, eq-eqb}
 use Rattle.std.proofs.Math.ListN.{set}
-use Rattle.std.proofs.lemmas.List.{length-append, map-append}
+use Rattle.std.proofs.lemmas.List.{length-append}
 use Rattle.std.proofs.lemmas.List.Elements.{filter-append, filter_map-append}
 use Rattle.std.proofs.lemmas.List.Sums.{fold-append}
 use Rattle.std.proofs.lemmas.Grind.{flat_map-append}
@@ -12,7 +12,7 @@ use Rattle.ak_labor.specs.declared.work.Work.{Work}
 use Rattle.ak_labor.specs.declared.work.Outcome.{Outcome}
 use Rattle.ak_labor.specs.declared.ask.Ask.{Ask}
 use Rattle.ak_labor.specs.declared.ask.Ask.TheVariants as ask
-use Rattle.ak_labor.specs.Calls.{Reply, Granted, Done}
+use Rattle.ak_labor.specs.Calls.{Reply, Done}
 use Rattle.ak_labor.specs.Waits.{Handed, handed_by, pairs_in, is_pair_of, is_out, outstanding, helped, helped_by, active_helpers, is_number, is_other_helper, requests_in, came, answered_by}
 use Rattle.ak_labor.specs.Waits.{is_unanswered, unanswered, left_by, left_after}
 use Rattle.ak_machine.specs.declared.held.HelperState.{HelperState}

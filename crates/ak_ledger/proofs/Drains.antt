@@ -1,5 +1,5 @@
 -- What a drain brings leaves a state in step: each work that arrives was out, and is out no longer.
-use Rattle.std.proofs.Common.{◌≡◌, ℕ, ℤ, zero, suc, ◌+◌, ◌<◌, ◌≤◌, ◌||◌, ◌&&◌, List, [], ◌∷◌, ◌++◌, length, map, filter, get_or, Bool, true, false, cond, Option, Some, None, refl, sym, subst, ap, ◌∙◌, arith, append-nil, fold}
+use Rattle.std.proofs.Common.{◌≡◌, ℕ, ℤ, zero, suc, ◌<◌, ◌≤◌, ◌||◌, ◌&&◌, List, [], ◌∷◌, ◌++◌, length, map, filter, get_or, Bool, true, false, cond, Option, Some, None, refl, sym, subst, ap, ◌∙◌, arith, append-nil, fold}
 use Rattle.std.specs.Prelude.{not, ◌==◌, find, IsSome, Contains}
 use Rattle.std.specs.List.{AllByRecursion, list_any, filter_map, flat_map}
 use Rattle.std.proofs.lemmas.Bool.{eqb-true, eq-eqb, true≢false}
@@ -13,7 +13,7 @@ use Rattle.ak_labor.specs.declared.ask.Ask.{Ask}
 use Rattle.ak_labor.specs.declared.ask.Ask.TheVariants as ask
 use Rattle.ak_labor.specs.Arrived.{Arrived}
 use Rattle.ak_labor.specs.Calls.{Reply, Drained}
-use Rattle.ak_labor.specs.Waits.{Handed, handed_by, pairs_in, requests_in, is_pair_of, is_out, outstanding, is_other, Arrive, helper_in, answered_by, left_by, came}
+use Rattle.ak_labor.specs.Waits.{Handed, handed_by, pairs_in, is_pair_of, is_out, outstanding, is_other, Arrive, helper_in, answered_by, left_by, came}
 use Rattle.ak_cells.specs.declared.registration.Registration.{Registration}
 use Rattle.ak_cells.specs.Cells.{waiting_on, filled}
 use Rattle.ak_cells.specs.Names.{renamed}
@@ -29,8 +29,8 @@ use Rattle.ak_machine.specs.Mapped.{requested_mapped}
 use Rattle.ak_machine.specs.Cycle.{is_work, is_other_work, outcome_given, arrival_of, arrive, arrive_all, with_left}
 use Rattle.ak_ledger.specs.Outside.{work_kept, work_handed, request_kept, has_number, has_other_number, AreOut, Outside, outside_of, IsSaid, IsInStep}
 use Rattle.ak_ledger.proofs.Still.{Still, AfterHas}
-use Rattle.ak_ledger.proofs.Lines.{AsksWell, outcome_keeps}
-use Rattle.ak_ledger.proofs.Calls.{nothing_behind, none_more, none_longer, filter_same, active_next, unanswered_same, came_same}
+use Rattle.ak_ledger.proofs.Lines.{outcome_keeps}
+use Rattle.ak_ledger.proofs.Calls.{none_more, none_longer, active_next, unanswered_same, came_same}
 use Rattle.ak_ledger.proofs.InStep.{outside_by, works_renamed, requests_renamed}
 
 -- ---- works by their numbers
@@ -104,17 +104,14 @@ module _ (o : Outside) where
         let f : ℕ → ℕ = renamed right result
         in ap (λ ws. record (outside_of s) { works = ws; requests = map request_kept (map (requested_mapped f) s.requests) }) (works_renamed f s.works)
         ∙ ap (λ rs. record (outside_of s) { requests = rs }) (requests_renamed f s.requests) ∙ h;
-    change = λ s u e h. ap outside_by e ∙ h;
+    change = λ s u e t h. ap outside_by e ∙ h;
   }
-
-  nothing_asked : AsksWell (λ (s : State). outside_of s ≡ o) (λ (a : Ask) (s : State). Unit {0})
-  nothing_asked = record { work = λ ctx to work helper s h p. tt; helper = λ s p. tt; done = λ h s e p. tt }
 
   outcome_outside : (outcome : Outcome) (work : Outstanding) (s : State) → outside_of s ≡ o → (outcome_given outcome work s).flow ≡ flow.On
       → outside_of (outcome_given outcome work s).state ≡ o
   outcome_outside outcome work s h e =
       subst (λ (f : Flow). AfterHas (λ (t : State). outside_of t ≡ o) f (outcome_given outcome work s).state) e
-      (outcome_keeps (λ (t : State). outside_of t ≡ o) (λ (a : Ask) (t : State). Unit {0}) outside_still nothing_asked outcome work s h)
+      (outcome_keeps (λ (t : State). outside_of t ≡ o) (λ (a : Ask) (t : State). Unit {0}) outside_still outcome work s h)
 
 -- the works that are left
 abbrev one_less : ℕ → Outside → Outside

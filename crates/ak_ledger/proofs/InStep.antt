@@ -20,11 +20,11 @@ use Rattle.ak_machine.specs.declared.held.HelperState.{HelperState}
 use Rattle.ak_machine.specs.declared.held.Outstanding.{Outstanding}
 use Rattle.ak_machine.specs.declared.held.Requested.{Requested}
 use Rattle.ak_machine.specs.State.{State}
-use Rattle.ak_machine.specs.Mapped.{outstanding_mapped, requested_mapped, state_renamed}
+use Rattle.ak_machine.specs.Mapped.{outstanding_mapped, requested_mapped}
 use Rattle.ak_machine.specs.Deferred.{noting, woken_by}
-use Rattle.ak_machine.specs.Works.{submitted, helper_at, is_active, helper_ended, with_helper}
+use Rattle.ak_machine.specs.Works.{submitted, helper_at, is_active, helper_ended}
 use Rattle.ak_ledger.specs.Outside.{work_kept, work_handed, request_kept, Outside, outside_of, active_from, IsSaid, IsInStep, IsAskable}
-use Rattle.ak_ledger.proofs.Still.{Still, aspects_of, Aspects}
+use Rattle.ak_ledger.proofs.Still.{Still, Aspects}
 use Rattle.ak_ledger.proofs.Lines.{IsHelped, AsksWell}
 use Rattle.ak_ledger.proofs.Calls.{nothing_behind, none_more, none_longer, one_longer, outstanding_same, outstanding_more, active_next, active_ended, active_has, active_new, came_same, unanswered_same, left_same}
 
@@ -70,7 +70,7 @@ module _ (askers : ℕ) (asked : List Ask) (replies : List Reply) where
     forget = λ notes s h. h;
     fill = λ i v s h. all_woken v (waiting_on i s.cells) (noting (entry.Fill i v) (record s { cells = filled i v s.cells })) h;
     join = λ result right s e h. renamed_in_step (renamed right result) s h;
-    change = λ s u e h. subst (IsSaid askers asked replies) (sym (ap outside_by e)) h;
+    change = λ s u e t h. subst (IsSaid askers asked replies) (sym (ap outside_by e)) h;
   }
 
   module _ (even : length replies ≡ length asked) where
@@ -181,4 +181,10 @@ module _ (askers : ℕ) (asked : List Ask) (replies : List Reply) where
         )
 
     pub asks_well : AsksWell (IsInStep askers asked replies) (IsAskable askers asked replies)
-    asks_well = record { work = work_asked; helper = helper_asked; done = done_asked }
+    asks_well = record {
+      work = work_asked;
+      helper = helper_asked;
+      done = done_asked;
+      new_pipe = λ room s h. h;
+      other_pipe = λ i x s h. h;
+    }

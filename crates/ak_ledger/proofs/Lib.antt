@@ -1,3 +1,4 @@
+pub mod Tallies
 pub mod Still
 pub mod Lines
 pub mod Calls

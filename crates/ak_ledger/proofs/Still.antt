@@ -1,6 +1,7 @@
 -- What the small changes of a state keep, each operation keeps.
 use Rattle.std.proofs.Common.{ℕ, ℤ, ◌≡◌, List, [], ◌∷◌, Bool, true, false, Option, Some, None, refl, fold}
 use Rattle.std.specs.Prelude.{pos, length, map, if◌then◌else◌, ◌==◌, ◌+◌}
+use Rattle.std.proofs.Math.Seq.{map-set_same}
 use Rattle.ak_base.specs.declared.number.Ctx.{Ctx}
 use Rattle.ak_cells.specs.declared.registration.Registration.{Registration}
 use Rattle.ak_cells.specs.Cells.{with_registration, unregistered}
@@ -54,6 +55,8 @@ use Rattle.ak_machine.specs.Throttles as throttles
 use Rattle.ak_machine.specs.Pipes as pipes
 use Rattle.ak_machine.specs.Alarms as alarms
 use Rattle.ak_machine.specs.Errors.{stopped, next_errors_filled, acted, handler_acts, handled, caught_at, send}
+use Rattle.ak_ledger.specs.Tallies.{tally_of, tallies_of}
+use Rattle.ak_ledger.proofs.Tallies.{tally_freed, tally_flushed}
 
 -- an entry that says nothing of jobs, cycles and the end, and nothing of ivars, works and requests
 abbrev pub IsQuiet : Entry → Type 0
@@ -98,7 +101,7 @@ aspects_of s = record {
   trace = s.trace;
 }
 
--- kept by each small change of a state that neither asks the pool nor takes what comes from it
+-- kept by each small change of a state that neither asks the pool, nor takes what comes from it, nor changes the tally of a pipe
 pub record Still (P : State → Type 0) : Type 0 where
   pub note : (e : Entry) (s : State) → IsQuiet e → P s → P (noting e s)
   pub enq : (ctx : Ctx) (task : Task) (s : State) → IsNoAnswer task.frame → P s → P (enqueue ctx task s)
@@ -106,7 +109,7 @@ pub record Still (P : State → Type 0) : Type 0 where
   pub forget : (notes : List ℕ) (s : State) → P s → P (record s { cells = fold unregistered s.cells notes })
   pub fill : (i : ℕ) (v : ℤ) (s : State) → P s → P (fill_empty i v s)
   pub join : (result right : ℕ) (s : State) → (result == right) ≡ false → P s → P (state_renamed right result (noting (entry.Join result right) s))
-  pub change : (s u : State) → aspects_of u ≡ aspects_of s → P s → P u
+  pub change : (s u : State) → aspects_of u ≡ aspects_of s → tallies_of u ≡ tallies_of s → P s → P u
 
 -- a state that has it, with the end behind it
 pub record Ended (P : State → Type 0) (s : State) : Type 0 where
@@ -162,18 +165,18 @@ module _ (P : State → Type 0) (k : Still P) where
 
   -- ---- monitors
   pub with_monitor_keeps : (m : ℕ) (s : State) → P s → P (monitors.with_monitor m s)
-  with_monitor_keeps m s p = k.note (entry.Monitor (length s.monitors) m) _ tt (k.change s _ refl p)
+  with_monitor_keeps m s p = k.note (entry.Monitor (length s.monitors) m) _ tt (k.change s _ refl refl p)
 
   pub detach_keeps : (m : ℕ) (s : State) → P s → P (monitors.detach m s)
-  detach_keeps m s p = k.note (entry.Detach m) _ tt (k.change s _ refl p)
+  detach_keeps m s p = k.note (entry.Detach m) _ tt (k.change s _ refl refl p)
 
   attach_keeps : (m : ℕ) (s : State) → P s → P (monitors.attach m s)
-  attach_keeps m s p = k.note (entry.Attach m) _ tt (k.change s _ refl p)
+  attach_keeps m s p = k.note (entry.Attach m) _ tt (k.change s _ refl refl p)
 
   called_under_keeps : (h : Handler) (ctx : Ctx) (proc : ℕ) (vals : List Value) (ret : Ret) (s : State) → P s → P (monitors.called_under h ctx proc vals ret s)
   called_under_keeps h ctx proc vals ret s p =
       called_keeps _ proc vals ret _
-      (k.change (monitors.detach (length s.monitors) (monitors.with_monitor ctx.mon s)) _ refl
+      (k.change (monitors.detach (length s.monitors) (monitors.with_monitor ctx.mon s)) _ refl refl
       (detach_keeps (length s.monitors) _ (with_monitor_keeps ctx.mon s p)))
 
   -- ---- groups and guards
@@ -183,7 +186,7 @@ module _ (P : State → Type 0) (k : Still P) where
 
   noted_at_keeps : (o : Option ℤ) (g : ℕ) (s : State) → P s → P (group.noted_at o g s)
   noted_at_keeps (Some v) g s p = p
-  noted_at_keeps None g s p = k.change s _ refl p
+  noted_at_keeps None g s p = k.change s _ refl refl p
 
   choice_registered_keeps : (ctx : Ctx) (g : ℕ) (ds : List ℕ) (s : State) → P s → P (group.choice_registered ctx g ds s)
   choice_registered_keeps ctx g [] s p = p
@@ -191,26 +194,26 @@ module _ (P : State → Type 0) (k : Still P) where
       choice_registered_keeps ctx g ds _ (register_keeps d ctx (ChoicePart g) (group.noted_at (number_at d s) g s) tt (noted_at_keeps (number_at d s) g s p))
 
   pub all_begun_keeps : (ctx : Ctx) (ds : List ℕ) (c : Callback) (s : State) → P s → P (group.all_begun ctx ds c s)
-  all_begun_keeps ctx ds c s p = all_registered_keeps ctx (length s.groups) ds 0 _ (k.change s _ refl p)
+  all_begun_keeps ctx ds c s p = all_registered_keeps ctx (length s.groups) ds 0 _ (k.change s _ refl refl p)
 
   pub any_begun_keeps : (ctx : Ctx) (ds : List ℕ) (r : ℕ) (s : State) → P s → P (group.any_begun ctx ds r s)
-  any_begun_keeps ctx ds r s p = choice_registered_keeps ctx (length s.groups) ds _ (k.change s _ refl p)
+  any_begun_keeps ctx ds r s p = choice_registered_keeps ctx (length s.groups) ds _ (k.change s _ refl refl p)
 
   pub choice_begun_keeps : (ctx : Ctx) (cs : List Choosable) (vals : List Value) (r : ℕ) (s : State) → P s → P (group.choice_begun ctx cs vals r s)
   choice_begun_keeps ctx cs vals r s p =
-      choice_registered_keeps ctx (length s.groups) (map group.deferred_of cs) _ (k.change s _ refl p)
+      choice_registered_keeps ctx (length s.groups) (map group.deferred_of cs) _ (k.change s _ refl refl p)
 
   pub try_begun_keeps : (ctx : Ctx) (kind : GuardMode) (proc : ℕ) (vals : List Value) (c : Callback) (s : State) → P s
       → P (group.try_begun ctx kind proc vals c s)
   try_begun_keeps ctx kind proc vals c s p =
-      called_under_keeps (OfGuard (length s.groups)) ctx proc vals (TryBody (length s.groups)) _ (k.change s _ refl p)
+      called_under_keeps (OfGuard (length s.groups)) ctx proc vals (TryBody (length s.groups)) _ (k.change s _ refl refl p)
 
   left_by_guard_keeps : (kind : GuardMode) (m : ℕ) (s : State) → P s → P (group.left_by_guard kind m s)
   left_by_guard_keeps mode.Drop m s p = p
   left_by_guard_keeps mode.Raise m s p = attach_keeps m s p
 
   guard_decided_keeps : (kind : GuardMode) (m g : ℕ) (s : State) → P s → P (group.guard_decided kind m g s)
-  guard_decided_keeps kind m g s p = left_by_guard_keeps kind m _ (k.change s (group.decided g s) refl p)
+  guard_decided_keeps kind m g s p = left_by_guard_keeps kind m _ (k.change s (group.decided g s) refl refl p)
 
   guard_catches_keeps : (q : Purpose) (b : Bool) (g : ℕ) (e : ℤ) (s : State) → P s → P (group.guard_catches q b g e s)
   guard_catches_keeps (ForGuard ctx m kind c) false g e s p =
@@ -243,7 +246,7 @@ module _ (P : State → Type 0) (k : Still P) where
   -- ---- throttles
   body_called_keeps : (b : BodyId) (body : Body) (s : State) → P s → P (throttles.body_called b body s)
   body_called_keeps b body s p =
-      called_under_keeps (OfBody b) body.ctx body.call.proc body.call.vals (ThrottleBody b) _ (k.change s _ refl p)
+      called_under_keeps (OfBody b) body.ctx body.call.proc body.call.vals (ThrottleBody b) _ (k.change s _ refl refl p)
 
   front_called_keeps : (t : ℕ) (o : Option (ℕ × Body)) (s : State) → P s → P (throttles.front_called t o s)
   front_called_keeps t None s p = p
@@ -256,29 +259,29 @@ module _ (P : State → Type 0) (k : Still P) where
   pub body_enqueued_keeps : (t : ℕ) (body : Body) (s : State) → P s → P (throttles.body_enqueued t body s)
   body_enqueued_keeps t body s p =
       body_placed_keeps (throttle.placed body (throttles.throttle_at t s)) t
-      (throttles.with_throttle_at t (throttle.enqueued body (throttles.throttle_at t s)) s) (k.change s _ refl p)
+      (throttles.with_throttle_at t (throttle.enqueued body (throttles.throttle_at t s)) s) (k.change s _ refl refl p)
 
   marks_filled_keeps : (t : ℕ) (s : State) → P s → P (throttles.marks_filled t s)
   marks_filled_keeps t s p =
       fold_keeps throttles.mark_filled (λ u mark q. fill_keeps mark.ivar (pos 0) u q)
-      (throttle.satisfied_marks (throttles.throttle_at t s)) _ (k.change s _ refl p)
+      (throttle.satisfied_marks (throttles.throttle_at t s)) _ (k.change s _ refl refl p)
 
   pub done_awaited_keeps : (t i : ℕ) (s : State) → P s → P (throttles.done_awaited t i s)
   done_awaited_keeps t i s p =
-      filled_where_keeps (throttle.is_done (throttles.throttle_at t s)) i _ (k.change s _ refl p)
+      filled_where_keeps (throttle.is_done (throttles.throttle_at t s)) i _ (k.change s _ refl refl p)
 
   body_left_keeps : (b : BodyId) (s : State) → P s → P (throttles.body_left b s)
   body_left_keeps b s p =
       let x : throttle.Throttle Body = throttles.throttle_at b.throttle s
       in let after : State = throttles.with_throttle_at b.throttle (throttle.after_end b.no x) s
-      in front_called_keeps b.throttle (throttle.started_by_end b.no x) after (k.change s after refl p)
+      in front_called_keeps b.throttle (throttle.started_by_end b.no x) after (k.change s after refl refl p)
 
   ended_at_keeps : (f : Fate) (b : BodyId) (v : ℤ) (s : State) → P s → P (throttles.ended_at f b v s)
   ended_at_keeps Undecided b v s p =
       let over : State = throttles.with_fate Over b s
       in let full : State = fill (throttles.started_at b s).to v over
       in marks_filled_keeps b.throttle (throttles.body_left b full)
-      (body_left_keeps b full (fill_keeps (throttles.started_at b s).to v over (k.change s over refl p)))
+      (body_left_keeps b full (fill_keeps (throttles.started_at b s).to v over (k.change s over refl refl p)))
   ended_at_keeps Failing b v s p = p
   ended_at_keeps Over b v s p = p
 
@@ -296,14 +299,14 @@ module _ (P : State → Type 0) (k : Still P) where
   acts_at_keeps : (f : Fate) (b : BodyId) (e : ℤ) (s : State) → P s → P (throttles.acts_at f b e s)
   acts_at_keeps Undecided b e s p =
       let failing : State = throttles.with_fate Failing b s
-      in k.enq (throttles.started_at b s).ctx (plain_task (BodyFailed b e)) failing tt (k.change s failing refl p)
+      in k.enq (throttles.started_at b s).ctx (plain_task (BodyFailed b e)) failing tt (k.change s failing refl refl p)
   acts_at_keeps Failing b e s p = k.note (entry.Rest e) s tt p
   acts_at_keeps Over b e s p = k.note (entry.Rest e) s tt p
 
   drops_raised_keeps : (t : ℕ) (s : State) → P s → P (throttles.drops_raised t s)
   drops_raised_keeps t s p =
       fold_keeps throttles.drop_raised (λ u body q. k.enq body.ctx (plain_task (Raise throttles.dropped_error)) u tt q) (throttles.throttle_at t s).dropped _
-      (k.change s _ refl p)
+      (k.change s _ refl refl p)
 
   body_lost_keeps : (b : BodyId) (s : State) → P s → P (throttles.body_lost b s)
   body_lost_keeps b s p =
@@ -312,11 +315,11 @@ module _ (P : State → Type 0) (k : Still P) where
       in let started : State = throttles.front_called b.throttle (throttle.started_by_failure b.no x) after
       in marks_filled_keeps b.throttle (throttles.drops_raised b.throttle started)
       (drops_raised_keeps b.throttle started
-      (front_called_keeps b.throttle (throttle.started_by_failure b.no x) after (k.change s after refl p)))
+      (front_called_keeps b.throttle (throttle.started_by_failure b.no x) after (k.change s after refl refl p)))
 
   failed_at_keeps : (f : Fate) (b : BodyId) (s : State) → P s → P (throttles.failed_at f b s)
   failed_at_keeps Undecided b s p = p
-  failed_at_keeps Failing b s p = body_lost_keeps b (throttles.with_fate Over b s) (k.change s (throttles.with_fate Over b s) refl p)
+  failed_at_keeps Failing b s p = body_lost_keeps b (throttles.with_fate Over b s) (k.change s (throttles.with_fate Over b s) refl refl p)
   failed_at_keeps Over b s p = p
 
   pub body_failed_keeps : (b : BodyId) (s : State) → P s → P (throttles.body_failed b s)
@@ -327,25 +330,32 @@ module _ (P : State → Type 0) (k : Still P) where
   taken_by_keeps None v s p = p
   taken_by_keeps (Some r) v s p = called_keeps r.ctx _ _ _ s p
 
-  pub put_keeps : (i : ℕ) (v : ℤ) (s : State) → P s → P (pipes.put i v s)
-  put_keeps i v s p = taken_by_keeps (pipe.taker_of (pipes.pipe_at i s)) v _ (k.change s _ refl p)
+  -- where the pipe stands as it is then
+  pub put_keeps : (i : ℕ) (v : ℤ) (s : State) → P (pipes.with_pipe_at i (pipe.put v (pipes.pipe_at i s)) s) → P (pipes.put i v s)
+  put_keeps i v s p = taken_by_keeps (pipe.taker_of (pipes.pipe_at i s)) v _ p
 
-  pub write_keeps : (i r : ℕ) (v : ℤ) (s : State) → P s → P (pipes.write i r v s)
+  pub write_keeps : (i r : ℕ) (v : ℤ) (s : State) → P (pipes.with_pipe_at i (pipe.after_write v r (pipes.pipe_at i s)) s) → P (pipes.write i r v s)
   write_keeps i r v s p =
       let x : pipe.Pipe Read = pipes.pipe_at i s
       in let after : State = pipes.with_pipe_at i (pipe.after_write v r x) s
       in filled_where_keeps (pipe.is_free (pipe.put v x)) r (pipes.taken_by (pipe.taker_of x) v after)
-      (taken_by_keeps (pipe.taker_of x) v after (k.change s after refl p))
+      (taken_by_keeps (pipe.taker_of x) v after p)
+
+  -- a pipe of the same tally
+  same_tally_keeps : (i : ℕ) (x : pipe.Pipe Read) (s : State) → tally_of x ≡ tally_of (pipes.pipe_at i s) → P s → P (pipes.with_pipe_at i x s)
+  same_tally_keeps i x s e p = k.change s _ refl (map-set_same tally_of s.pipes i x (pipe.fresh_pipe 0) e) p
 
   pushbacks_freed_keeps : (i : ℕ) (s : State) → P s → P (pipes.pushbacks_freed i s)
   pushbacks_freed_keeps i s p =
-      fold_keeps (filled_with (pos 0)) (λ u r q. fill_keeps r (pos 0) u q) (pipe.freed_pushbacks (pipes.pipe_at i s)) _
-      (k.change s _ refl p)
+      let x : pipe.Pipe Read = pipes.pipe_at i s
+      in fold_keeps (filled_with (pos 0)) (λ u r q. fill_keeps r (pos 0) u q) (pipe.freed_pushbacks x) _
+      (same_tally_keeps i (pipe.without_freed x) s (tally_freed x) p)
 
   flushes_settled_keeps : (i : ℕ) (s : State) → P s → P (pipes.flushes_settled i s)
   flushes_settled_keeps i s p =
-      fold_keeps (pipes.flush_filled (pipes.pipe_at i s)) (λ u flush q. fill_keeps flush.ivar _ u q)
-      (pipe.settled_flushes (pipes.pipe_at i s)) _ (k.change s _ refl p)
+      let x : pipe.Pipe Read = pipes.pipe_at i s
+      in fold_keeps (pipes.flush_filled x) (λ u flush q. fill_keeps flush.ivar _ u q) (pipe.settled_flushes x) _
+      (same_tally_keeps i (pipe.without_settled x) s refl p)
 
   got_keeps : (x : Got Read) (i : ℕ) (s : State) → P s → P (pipes.got_for x i s)
   got_keeps (Item v r) i s p =
@@ -355,26 +365,22 @@ module _ (P : State → Type 0) (k : Still P) where
   got_keeps (Eof r) i s p = called_keeps r.ctx r.eof.proc r.eof.vals (To r.eof.to) s p
   got_keeps Waits i s p = p
 
-  pub read_keeps : (i : ℕ) (r : Read) (s : State) → P s → P (pipes.read i r s)
-  read_keeps i r s p =
-      got_keeps (pipe.got r (pipes.pipe_at i s)) i (pipes.with_pipe_at i (pipe.after_read r (pipes.pipe_at i s)) s)
-      (k.change s _ refl p)
+  pub read_keeps : (i : ℕ) (r : Read) (s : State) → P (pipes.with_pipe_at i (pipe.after_read r (pipes.pipe_at i s)) s) → P (pipes.read i r s)
+  read_keeps i r s p = got_keeps (pipe.got r (pipes.pipe_at i s)) i (pipes.with_pipe_at i (pipe.after_read r (pipes.pipe_at i s)) s) p
 
   eofs_called_keeps : (i : ℕ) (s : State) → P s → P (pipes.eofs_called i s)
   eofs_called_keeps i s p =
-      fold_keeps pipes.eof_called (λ u r q. called_keeps r.ctx _ _ _ u q) (pipes.pipe_at i s).owed _ (k.change s _ refl p)
+      let x : pipe.Pipe Read = pipes.pipe_at i s
+      in fold_keeps pipes.eof_called (λ u r q. called_keeps r.ctx _ _ _ u q) x.owed _ (same_tally_keeps i (pipe.without_owed x) s refl p)
 
-  pub close_keeps : (i : ℕ) (s : State) → P s → P (pipes.close i s)
-  close_keeps i s p =
-      let after : State = pipes.with_pipe_at i (pipe.after_close (pipes.pipe_at i s)) s
-      in eofs_called_keeps i after (k.change s after refl p)
+  pub close_keeps : (i : ℕ) (s : State) → P (pipes.with_pipe_at i (pipe.after_close (pipes.pipe_at i s)) s) → P (pipes.close i s)
+  close_keeps i s p = eofs_called_keeps i _ p
 
-  pub close_read_keeps : (i : ℕ) (s : State) → P s → P (pipes.close_read i s)
+  pub close_read_keeps : (i : ℕ) (s : State) → P (pipes.with_pipe_at i (pipe.after_close_read (pipes.pipe_at i s)) s) → P (pipes.close_read i s)
   close_read_keeps i s p =
       let after : State = pipes.with_pipe_at i (pipe.after_close_read (pipes.pipe_at i s)) s
       in let freed : State = pipes.pushbacks_freed i after
-      in eofs_called_keeps i (pipes.flushes_settled i freed)
-      (flushes_settled_keeps i freed (pushbacks_freed_keeps i after (k.change s after refl p)))
+      in eofs_called_keeps i (pipes.flushes_settled i freed) (flushes_settled_keeps i freed (pushbacks_freed_keeps i after p))
 
   learned_keeps : (o : Option ℤ) (r : ℕ) (s : State) → P s → P (pipes.learned o r s)
   learned_keeps (Some v) r s p = fill_keeps r v s p
@@ -382,30 +388,31 @@ module _ (P : State → Type 0) (k : Still P) where
 
   pub flushed_keeps : (i r : ℕ) (s : State) → P s → P (pipes.flushed i r s)
   flushed_keeps i r s p =
-      learned_keeps (pipe.flushed_at_once (pipes.pipe_at i s)) r
-      (pipes.with_pipe_at i (pipe.after_flushed r (pipes.pipe_at i s)) s) (k.change s _ refl p)
+      let x : pipe.Pipe Read = pipes.pipe_at i s
+      in learned_keeps (pipe.flushed_at_once x) r (pipes.with_pipe_at i (pipe.after_flushed r x) s)
+      (same_tally_keeps i (pipe.after_flushed r x) s (tally_flushed r x) p)
 
   -- ---- alarms
   aborted_at_keeps : (o : Option Alarm) (s : State) → P s → P (alarms.aborted_at o s)
   aborted_at_keeps None s p = p
-  aborted_at_keeps (Some alarm) s p = fill_keeps alarm.ivar (pos 1) _ (k.change s _ refl p)
+  aborted_at_keeps (Some alarm) s p = fill_keeps alarm.ivar (pos 1) _ (k.change s _ refl refl p)
 
   pub abort_keeps : (e : ℕ) (s : State) → P s → P (alarms.abort e s)
   abort_keeps e s p = aborted_at_keeps (clock.alarm_of e s.clock) s p
 
   pub yields_filled_keeps : (s : State) → P s → P (alarms.yields_filled s)
   yields_filled_keeps s p =
-      fold_keeps (filled_with (pos 0)) (λ u r q. fill_keeps r (pos 0) u q) s.clock.yields _ (k.change s _ refl p)
+      fold_keeps (filled_with (pos 0)) (λ u r q. fill_keeps r (pos 0) u q) s.clock.yields _ (k.change s _ refl refl p)
 
   pub alarms_filled_keeps : (s : State) → P s → P (alarms.alarms_filled s)
   alarms_filled_keeps s p =
       fold_keeps alarms.alarm_filled (λ u alarm q. fill_keeps alarm.ivar (pos 0) u q) (clock.due_alarms s.clock) _
-      (k.change s _ refl p)
+      (k.change s _ refl refl p)
 
   -- ---- errors
   next_errors_keeps : (e : ℤ) (s : State) (m : ℕ) → P s → P (next_errors_filled e s m)
   next_errors_keeps e s m p =
-      fold_keeps (filled_with e) (λ u r q. fill_keeps r e u q) (monitor_in s.monitors m).next_errors _ (k.change s _ refl p)
+      fold_keeps (filled_with e) (λ u r q. fill_keeps r e u q) (monitor_in s.monitors m).next_errors _ (k.change s _ refl refl p)
 
   acted_keeps : (e : ℤ) (ctx : Ctx) (h : Handler) (s : State) → P s → P (acted e ctx h s)
   acted_keeps e ctx (OnError proc vals) s p = called_keeps ctx proc (Num e ∷ vals) Drop s p

@@ -1,5 +1,5 @@
 -- The begin of a run and of a cycle keeps a state in step, and a run that is not stuck may wait.
-use Rattle.std.proofs.Common.{◌≡◌, ◌≢◌, ◌⊎◌, inl, inr, ℕ, ◌+◌, ◌<◌, ◌||◌, ◌&&◌, List, [], ◌∷◌, length, map, Bool, true, false, cond, Option, Some, None, refl, sym, subst, ap, ◌∙◌, arith}
+use Rattle.std.proofs.Common.{◌≡◌, ◌≢◌, ◌⊎◌, inl, inr, ℕ, ◌+◌, ◌<◌, ◌||◌, ◌&&◌, List, [], ◌∷◌, length, map, Bool, true, false, cond, Option, Some, None, refl, sym, ap, ◌∙◌, arith}
 use Rattle.std.specs.Prelude.{not, nat_le, is_some, is_none, count_by}
 use Rattle.std.specs.List.{list_any, list_all}
 use Rattle.std.proofs.lemmas.List.{length-map}
@@ -21,13 +21,13 @@ use Rattle.ak_machine.specs.State.{State, initial_state}
 use Rattle.ak_machine.specs.Deferred.{noting, called}
 use Rattle.ak_machine.specs.Works.{is_active}
 use Rattle.ak_machine.specs.Cycle.{cycle_begun, is_general, is_stuck}
-use Rattle.ak_ledger.specs.Outside.{work_kept, work_handed, Outside, outside_of, active_from, IsSaid, IsInStep}
+use Rattle.ak_ledger.specs.Outside.{work_kept, work_handed, Outside, outside_of, active_from, IsInStep}
 use Rattle.ak_ledger.proofs.Still.{Still, yields_filled_keeps, alarms_filled_keeps}
 use Rattle.ak_ledger.proofs.InStep.{step_still}
 use Rattle.ak_ledger.proofs.Drains.{outside_still}
 
 -- ---- a cycle begins
-cycle_still : (P : State → Type 0) (k : Still P) (s : State) → P (noting entry.Cycle (record s { queues = recounted s.queues })) → P (cycle_begun s)
+pub cycle_still : (P : State → Type 0) (k : Still P) (s : State) → P (noting entry.Cycle (record s { queues = recounted s.queues })) → P (cycle_begun s)
 cycle_still P k s p =
     let noted : State = noting entry.Cycle (record s { queues = recounted s.queues })
     in alarms_filled_keeps P k _ (yields_filled_keeps P k noted p)

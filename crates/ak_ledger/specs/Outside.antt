@@ -1,5 +1,5 @@
 -- What a state keeps of the pool and of the askers outside, and when the calls of a run and their replies say the same. Own.
-use Rattle.std.specs.Prelude.{ℕ, ◌+◌, ◌<◌, ◌≡◌, List, [], ◌∷◌, ◌++◌, map, filter, length, Bool, true, not, ◌==◌, Option, Some, None, if◌then◌else◌}
+use Rattle.std.specs.Prelude.{ℕ, ◌+◌, ◌<◌, ◌≡◌, List, [], ◌∷◌, ◌++◌, map, filter, length, Bool, true, not, ◌==◌, Option, Some, if◌then◌else◌}
 use Rattle.std.specs.List.{AllByRecursion, list_any, filter_map, flat_map}
 use Rattle.ak_labor.specs.declared.ask.Ask.{Ask}
 use Rattle.ak_labor.specs.declared.ask.Ask.TheVariants as ask

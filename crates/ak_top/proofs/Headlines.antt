@@ -10,6 +10,7 @@ use Rattle.ak_labor.specs.declared.config.Config.{Config}
 use Rattle.ak_machine.specs.Run.{run_of}
 use Rattle.ak_cycle.specs.Runs.{HasEndedWith}
 use Rattle.ak_history_laws.specs.Once.{StartOnce}
+use Rattle.ak_laws.proofs.ReadingRun.{reads_get_what_was_written}
 use Rattle.ak_crew.specs.Crews.{HasRun}
 use Rattle.ak_top.specs.Headline.{IsScript, RunsTo, program_of}
 
@@ -30,4 +31,5 @@ runs_to config bytes script program trace history is_script program_is ran legal
       asks_are = ended.asks_are;
       once = once;
       laws = ran.laws;
+      reads = λ p. reads_get_what_was_written (program_of script) config (replies config.askers history) p;
     }

@@ -6,12 +6,14 @@ use Rattle.ak_trace.specs.declared.entry.Entry.{Entry}
 use Rattle.ak_history.specs.declared.event.Event.{Event}
 use Rattle.ak_labor.specs.declared.ask.Ask.{Ask}
 use Rattle.ak_history.specs.Legal.{Legal}
+use Rattle.ak_history.specs.Scheduler.{replies}
 use Rattle.ak_script.specs.declared.script.Proc.{Proc}
 use Rattle.ak_program.specs.Programs.{NumProgram}
 use Rattle.ak_labor.specs.declared.config.Config.{Config}
 use Rattle.ak_machine.specs.Run.{run_of}
 use Rattle.ak_machine.specs.Status.{Stat, Well, ByError, AtJobLimit, Unfinished, status_of}
 use Rattle.ak_machine.specs.Status as stat
+use Rattle.ak_laws.proofs.ReadingRun.{reads_get_what_was_written}
 use Rattle.ak_meets.specs.Meets.{Meeting, Yes, Meets}
 use Rattle.ak_meets.specs.Meets as meeting
 use Rattle.ak_record.specs.declared.cut.Cut.{Cut}
@@ -163,6 +165,7 @@ runs_over config bytes record_bytes first program trace history is recorded agai
         asks_are = same.asks_are;
         once = same.once;
         laws = same.laws;
+        reads = λ p. reads_get_what_was_written (program_of is.script) config (replies config.askers history) p;
       };
     }
 

@@ -10,9 +10,12 @@ use Rattle.ak_valid.specs.Valid.{Valid}
 use Rattle.ak_program.specs.Programs.{NumProgram}
 use Rattle.ak_valid.specs.Numbered.{numbered, main_of, ask_of}
 use Rattle.ak_labor.specs.declared.config.Config.{Config}
-use Rattle.ak_machine.specs.Run.{Run, HasEnded, run_of}
+use Rattle.ak_machine.specs.State.{State}
+use Rattle.ak_machine.specs.Run.{Run, HasEnded, run_of, machine_after}
 use Rattle.ak_history_laws.specs.Once.{StartOnce}
 use Rattle.ak_laws.specs.Laws.{ObeysLaws}
+use Rattle.ak_laws.specs.Executed.{Executed, executed}
+use Rattle.ak_laws.specs.Reads.{ReadsGetWhatWasWritten}
 use Rattle.ak_reading.specs.Reading.{Had}
 
 -- the bytes are a valid script
@@ -28,6 +31,13 @@ program_of script = record { procs = numbered script; main = main_of script; ask
 abbrev pub run_on : List Proc → Config → List Event → Run
 run_on script config history = run_of (program_of script) config (replies config.askers history)
 
+-- the statements that this run executes, and the state that it leaves
+abbrev pub executed_on : List Proc → Config → List Event → List Executed
+executed_on script config history = executed (program_of script) config (replies config.askers history)
+
+abbrev pub state_on : List Proc → Config → List Event → State
+state_on script config history = (machine_after (program_of script) config (replies config.askers history)).state
+
 -- The headline, for a script's bytes: this trace and this history are those of a run of the script under these settings.
 pub record RunsTo (config : Config) (bytes : List ℕ) (trace : List Entry) (history : List Event) : Type 0 where
   pub script : List Proc
@@ -42,6 +52,8 @@ pub record RunsTo (config : Config) (bytes : List ℕ) (trace : List Entry) (his
   pub once : StartOnce trace history
   -- the trace obeys the laws of traces that are proved
   pub laws : ObeysLaws config.limit trace
+  -- what the reads of each pipe got is what was written to it, in order, each number once
+  pub reads : (p : ℕ) → ReadsGetWhatWasWritten p (executed_on script config history) (state_on script config history)
 
 -- The headline, for the settings of a command and what a source had.
 pub record IsRun (config : Config) (told : Option (List ℕ)) (trace : List Entry) (history : List Event) : Type 0 where
