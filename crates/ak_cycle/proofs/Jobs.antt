@@ -83,7 +83,7 @@ module _ (program : NumProgram) (config : Config) (w : Worldly) (asked : List As
     over_under : (m : Machine) → machine_after program config replies' ≡ m → IsUnderWay program config w' asked' replies' m
     over_under m k =
         under_way program config w w' asked asked' replies replies' (served_with w asked waits) m u
-        (ap (λ (x : Worldly). x.program) is) (ap (λ (x : Worldly). x.config) is) (ap (λ (x : Worldly). x.picked) is) k o q.none_came q.left
+        (ap (λ (x : Worldly). x.program) is) (ap (λ (x : Worldly). x.config) is) (ap (λ (x : Worldly). x.picked) is) k o (omega (arith, q.left))
 
     pub job_goes_on : f ≡ flow.On → IsInStepAfter config.askers asked' replies' f w'.plain → IsAt program config w' asked' replies' waits'
     job_goes_on on h = record {
@@ -124,7 +124,7 @@ limit_over program config w w' asked replies waits s e spent is = record {
   run =
       under_way program config w w' asked asked replies replies (served_with w asked waits) (at_close w' asked waits) s.run
       (ap (λ (x : Worldly). x.program) is) (ap (λ (x : Worldly). x.config) is) (ap (λ (x : Worldly). x.picked) is ∙ s.run.free)
-      (s.run.machine ∙ limit_closes w asked waits e spent ∙ ap (λ (x : Worldly). at_close x asked waits) (sym is)) s.run.opened refl refl;
+      (s.run.machine ∙ limit_closes w asked waits e spent ∙ ap (λ (x : Worldly). at_close x asked waits) (sym is)) s.run.opened (omega arith);
   finished = subst (λ (x : Worldly). IsFinished (status_of x.plain.trace)) (sym is) (jobs_finished w.plain.trace);
   idle =
       λ h. absurd (not_idle ending.Jobs w.plain.trace (λ k. absurd (cc)) (subst (λ (x : Worldly). EndsIdle x.plain.trace) is h));

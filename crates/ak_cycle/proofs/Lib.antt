@@ -1,5 +1,6 @@
 pub mod Turns
 pub mod Under
 mod Jobs
+mod Asked
 mod Rounds
 mod Own

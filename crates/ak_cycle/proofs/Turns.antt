@@ -1,5 +1,5 @@
 -- What the machine does once all of a drain has arrived: the next job, the end of a cycle, or the end of the run.
-use Rattle.std.proofs.Common.{◌≡◌, ℕ, ◌+◌, inl, inr, List, [], ◌∷◌, ◌++◌, length, Bool, true, false, not, cond, refl, ap, sym, subst, ◌∙◌}
+use Rattle.std.proofs.Common.{◌≡◌, ◌⊎◌, ℕ, ◌+◌, inl, inr, List, [], ◌∷◌, ◌++◌, length, Bool, true, false, not, cond, refl, ap, sym, subst, ◌∙◌}
 use Rattle.std.specs.Prelude.{Option, Some, None, nat_le}
 use Rattle.std.proofs.lemmas.List.{reverse-append}
 use Rattle.ak_base.specs.Lists.{is_empty_list}
@@ -27,7 +27,7 @@ use Rattle.ak_state.specs.Seen.{without_pick}
 use Rattle.ak_state.specs.Errors.{after_is, Ends}
 use Rattle.ak_exec.specs.Worlds.{Worldly, with_state, with_pick, ran_with}
 use Rattle.ak_cycle.specs.Runs.{EndsIdle, WaitsAre}
-use Rattle.ak_cycle.specs.Turns.{at_drain, at_close, served_with, IsFinished}
+use Rattle.ak_cycle.specs.Turns.{at_drain, at_close, served_with, IsFinished, ending_of}
 
 -- ---- ends
 pub idle_ends : (t : List Entry) → status_of (t ++ entry.End ending.Idle ∷ []) ≡ Well
@@ -154,54 +154,76 @@ ended_at : (w : Worldly) (o : Option (Job Task)) (asked : List Ask) (waits : Lis
 ended_at w None asked waits e = refl
 ended_at w (Some job) asked waits e = absurd (cc)
 
--- what comes of a cycle's end, by what is left to do, whether the outside is quiet, whether works are out, and whether they are stuck
-ends_at : (w : Worldly) (more quiet none stuck : Bool) (asked : List Ask) (waits : List ℕ) → has_more w.plain ≡ more → is_quiet w.plain ≡ quiet
-    → is_empty_list w.plain.works ≡ none → is_stuck w.config.threads w.plain ≡ stuck
-    → cycle_ended w.config w.plain (record { state = w.plain; ran = w.ran; asks = asked; waits = waits; place = AtDrain })
-    ≡ (let m : Machine = record { state = w.plain; ran = w.ran; asks = asked; waits = waits; place = AtDrain }
-    in cond more (draining (cycle_begun w.plain) m)
-    (cond (not quiet) (waiting w.plain m)
-    (cond none (ending_by ending.Idle w.plain m) (cond stuck (ending_by ending.Stuck w.plain m) (waiting w.plain m)))))
-ends_at w more quiet none stuck asked waits e q n s =
-    let m : Machine = record { state = w.plain; ran = w.ran; asks = asked; waits = waits; place = AtDrain }
-    in ap (λ b. cond b (draining (cycle_begun w.plain) m)
-    (cond (not (is_quiet w.plain)) (waiting w.plain m)
-    (cond (is_empty_list w.plain.works) (ending_by ending.Idle w.plain m)
-    (cond (is_stuck w.config.threads w.plain) (ending_by ending.Stuck w.plain m) (waiting w.plain m))))) e
-    ∙ ap (λ b. cond more (draining (cycle_begun w.plain) m)
-    (cond (not b) (waiting w.plain m)
-    (cond (is_empty_list w.plain.works) (ending_by ending.Idle w.plain m)
-    (cond (is_stuck w.config.threads w.plain) (ending_by ending.Stuck w.plain m) (waiting w.plain m))))) q
-    ∙ ap (λ b. cond more (draining (cycle_begun w.plain) m)
-    (cond (not quiet) (waiting w.plain m)
-    (cond b (ending_by ending.Idle w.plain m) (cond (is_stuck w.config.threads w.plain) (ending_by ending.Stuck w.plain m) (waiting w.plain m))))) n
-    ∙ ap (λ b. cond more (draining (cycle_begun w.plain) m)
-    (cond (not quiet) (waiting w.plain m)
-    (cond none (ending_by ending.Idle w.plain m) (cond b (ending_by ending.Stuck w.plain m) (waiting w.plain m))))) s
+-- what comes of a cycle's end where nothing is left to do
+abbrev comes_of : Option Ending → State → Machine → Machine
+comes_of None s m = waiting s m
+comes_of (Some why) s m = ending_by why s m
+
+ends_by : (s : State) (m : Machine) (quiet none stuck : Bool)
+    → cond (not quiet) (waiting s m) (cond none (ending_by ending.Idle s m) (cond stuck (ending_by ending.Stuck s m) (waiting s m)))
+    ≡ comes_of (cond (not quiet) None (cond none (Some ending.Idle) (cond stuck (Some ending.Stuck) None))) s m
+ends_by s m false none stuck = refl
+ends_by s m true true stuck = refl
+ends_by s m true false true = refl
+ends_by s m true false false = refl
+
+-- by what is left to do, and by why the run ends
+ends_at : (config : Config) (s : State) (m : Machine) (more : Bool) (o : Option Ending) → has_more s ≡ more → ending_of config.threads s ≡ o
+    → cycle_ended config s m ≡ cond more (draining (cycle_begun s) m) (comes_of o s m)
+ends_at config s m more o e f =
+    ap (λ b. cond b (draining (cycle_begun s) m)
+    (cond (not (is_quiet s)) (waiting s m)
+    (cond (is_empty_list s.works) (ending_by ending.Idle s m) (cond (is_stuck config.threads s) (ending_by ending.Stuck s m) (waiting s m))))) e
+    ∙ ap (cond more (draining (cycle_begun s) m)) (ends_by s m (is_quiet s) (is_empty_list s.works) (is_stuck config.threads s))
+    ∙ ap (λ x. cond more (draining (cycle_begun s) m) (comes_of x s m)) f
+
+-- the machine at the end of the cycle
+abbrev at_end : Worldly → List Ask → List ℕ → Machine
+at_end w asked waits = record { state = w.plain; ran = w.ran; asks = asked; waits = waits; place = AtDrain }
 
 pub cycle_goes : (w : Worldly) (asked : List Ask) (waits : List ℕ) → has_pick w.plain.queues ≡ false → has_more w.plain ≡ true
     → served_with w asked waits ≡ at_drain (with_state (cycle_begun w.plain) w) asked waits
 cycle_goes w asked waits e more =
     ended_at w (pick_of w.plain.queues) asked waits e
-    ∙ ends_at w true (is_quiet w.plain) (is_empty_list w.plain.works) (is_stuck w.config.threads w.plain) asked waits more refl refl refl
+    ∙ ends_at w.config w.plain (at_end w asked waits) true (ending_of w.config.threads w.plain) more refl
 
-pub idle_closes : (w : Worldly) (asked : List Ask) (waits : List ℕ) → has_pick w.plain.queues ≡ false → has_more w.plain ≡ false
-    → is_quiet w.plain ≡ true → is_empty_list w.plain.works ≡ true
-    → served_with w asked waits ≡ at_close (with_state (noting (entry.End ending.Idle) w.plain) w) asked waits
-idle_closes w asked waits e more quiet none =
-    ended_at w (pick_of w.plain.queues) asked waits e ∙ ends_at w false true true (is_stuck w.config.threads w.plain) asked waits more quiet none refl
-
-pub stuck_closes : (w : Worldly) (asked : List Ask) (waits : List ℕ) → has_pick w.plain.queues ≡ false → has_more w.plain ≡ false
-    → is_quiet w.plain ≡ true → is_empty_list w.plain.works ≡ false → is_stuck w.config.threads w.plain ≡ true
-    → served_with w asked waits ≡ at_close (with_state (noting (entry.End ending.Stuck) w.plain) w) asked waits
-stuck_closes w asked waits e more quiet none stuck =
-    ended_at w (pick_of w.plain.queues) asked waits e ∙ ends_at w false true false true asked waits more quiet none stuck
+pub end_closes : (w : Worldly) (why : Ending) (asked : List Ask) (waits : List ℕ) → has_pick w.plain.queues ≡ false → has_more w.plain ≡ false
+    → ending_of w.config.threads w.plain ≡ Some why
+    → served_with w asked waits ≡ at_close (with_state (noting (entry.End why) w.plain) w) asked waits
+end_closes w why asked waits e more ends =
+    ended_at w (pick_of w.plain.queues) asked waits e ∙ ends_at w.config w.plain (at_end w asked waits) false (Some why) more ends
 
 pub wait_goes : (w : Worldly) (asked : List Ask) (waits : List ℕ) → has_pick w.plain.queues ≡ false → has_more w.plain ≡ false
-    → is_quiet w.plain ≡ true → is_empty_list w.plain.works ≡ false → is_stuck w.config.threads w.plain ≡ false
+    → ending_of w.config.threads w.plain ≡ None
     → served_with w asked waits ≡ at_drain (with_state (cycle_begun w.plain) w) asked (waits ++ length asked ∷ [])
-wait_goes w asked waits e more quiet none stuck =
-    ended_at w (pick_of w.plain.queues) asked waits e ∙ ends_at w false true false false asked waits more quiet none stuck
+wait_goes w asked waits e more goes =
+    ended_at w (pick_of w.plain.queues) asked waits e ∙ ends_at w.config w.plain (at_end w asked waits) false None more goes
+
+-- a run ends idle where no work is out, or stuck
+pub ends_well : (threads : ℕ) (s : State) (why : Ending) → ending_of threads s ≡ Some why
+    → ((why ≡ ending.Idle) × (is_empty_list s.works ≡ true)) ⊎ (why ≡ ending.Stuck)
+ends_well threads s why e = by (is_quiet s) (is_empty_list s.works) (is_stuck threads s) refl e
+  where
+    by : (quiet none stuck : Bool) → is_empty_list s.works ≡ none
+        → cond (not quiet) None (cond none (Some ending.Idle) (cond stuck (Some ending.Stuck) None)) ≡ Some why
+        → ((why ≡ ending.Idle) × (is_empty_list s.works ≡ true)) ⊎ (why ≡ ending.Stuck)
+    by false none stuck h k = absurd (cc)
+    by true true stuck h k = let same : why ≡ ending.Idle = cc in inl (same, h)
+    by true false true h k = let same : why ≡ ending.Stuck = cc in inr same
+    by true false false h k = absurd (cc)
+
+-- and goes on where a request or a work may come
+pub goes_well : (threads : ℕ) (s : State) → ending_of threads s ≡ None
+    → (is_quiet s ≡ false) ⊎ ((is_empty_list s.works ≡ false) × (is_stuck threads s ≡ false))
+goes_well threads s e = by (is_quiet s) (is_empty_list s.works) (is_stuck threads s) refl refl refl e
+  where
+    by : (quiet none stuck : Bool) → is_quiet s ≡ quiet → is_empty_list s.works ≡ none → is_stuck threads s ≡ stuck
+        → ◌≡◌ {A = Option Ending} (cond (not quiet) None (cond none (Some ending.Idle) (cond stuck (Some ending.Stuck) None))) None
+        → (is_quiet s ≡ false) ⊎ ((is_empty_list s.works ≡ false) × (is_stuck threads s ≡ false))
+    by false none stuck q n t k = inl q
+    by true true stuck q n t k = absurd (cc)
+    by true false true q n t k = absurd (cc)
+    by true false false q n t k = inr (n, t)
 
 -- ---- what is asked next
 -- the machine made one call more than these and wants its reply; it waited as often, or once more

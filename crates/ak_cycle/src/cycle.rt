@@ -6,6 +6,7 @@ ghost use Rattle.ak_labor.specs.Waits.{outstanding};
 ghost use Rattle.ak_machine.specs.Run.{run_of};
 ghost use Rattle.ak_machine.specs.Status.{status_of};
 ghost use Rattle.ak_exec.specs.Asks.{IsNoMemory};
+ghost use Rattle.ak_exec.specs.Worlds.{ServesAskers};
 ghost use Rattle.ak_laws.specs.Laws.{ObeysLaws};
 ghost use Rattle.ak_cycle.specs.Runs.{HasEndedWith, WantsLast, WantsNext, EndsIdle, EndsClosed};
 ghost use Rattle.ak_cycle.specs.Turns.{IsAt, GoesOn, IsFinished, jobs_left, first_world};
@@ -22,8 +23,9 @@ use ak_trace::entry::Trace;
 use std::alloc::Global;
 
 /// Runs a program on the scheduler, with a port as its pool: one of so many threads as the settings say, which was
-/// asked nothing yet. At most `config.limit` jobs of a priority run in a cycle, which is at least 1. There are no
-/// askers: requests from outside are not built yet. Own; after Async's scheduler in outline.
+/// asked nothing yet. At most `config.limit` jobs of a priority run in a cycle, which is at least 1. There are as many
+/// askers as the settings say, at most 16, and 0 where the program has no procedure `ask`. Own; after Async's scheduler in
+/// outline.
 ///
 /// On `Ok` the trace is the machine's for the port's replies, the machine has ended, and what the port was asked is
 /// what the machine asks, with its waits; the last call is the close. Where the trace ends idle, a reply has brought
@@ -44,7 +46,7 @@ pub fn run<P: Port>(
     requires limit { 1 ≤ config.limit }
     requires threads { config.threads ≡ P.threads port.old }
     requires askers { config.askers ≡ P.askers port.old }
-    requires no_askers { config.askers ≡ 0 }
+    requires served { ServesAskers program config.askers }
     requires asked { P.asked port.old ≡ [] }
     requires replied { P.replies port.old ≡ [] }
     requires waited { P.waits port.old ≡ [] }
@@ -76,7 +78,7 @@ pub fn run<P: Port>(
 // The world of a program, whose first cycle has begun.
 fn begin(alloc: Global, program: Program, config: Config) -> Result<World, NoMemory>
     requires limit { 1 ≤ config.limit }
-    requires no_askers { config.askers ≡ 0 }
+    requires served { ServesAskers program config.askers }
     ensures { IfOk result (λ world. world ≡ first_world program config) }
 {
     let mut world = World::make(alloc, program, config)?;

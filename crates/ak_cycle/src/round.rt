@@ -2,7 +2,7 @@
 
 ghost use Rattle.std.specs.Prelude.{◌≡◌, ◌≤◌, ◌<◌, ◌+◌, false, true, drop, length, map, Some, None, IfOk, OnOk, if◌then◌else◌};
 ghost use Rattle.ak_labor.specs.Calls.{IsFault};
-ghost use Rattle.ak_machine.specs.Cycle.{has_more, arrive_all as all_arrive};
+ghost use Rattle.ak_machine.specs.Cycle.{has_more, arrive_all as all_arrive, requests_served};
 ghost use Rattle.ak_machine.specs.Run.{run_of};
 ghost use Rattle.ak_rings.specs.Queues.{has_pick};
 ghost use Rattle.ak_ledger.specs.Outside.{AreOut, work_kept};
@@ -10,11 +10,12 @@ ghost use Rattle.ak_state.specs.Errors.{after_is, Ends};
 ghost use Rattle.ak_exec.specs.Asks.{IsNoMemory};
 ghost use Rattle.ak_exec.specs.Worlds.{with_state};
 ghost use Rattle.ak_cycle.specs.Runs.{WantsLast, WantsNext};
-ghost use Rattle.ak_cycle.specs.Turns.{IsAt, IsServed, GoesOn, IsBrought, has_waited, drains_left, HasGained, arrived_to};
+ghost use Rattle.ak_cycle.specs.Turns.{IsAt, IsServed, GoesOn, IsBrought, has_waited, drains_left, may_come, HasGained, MayBeServed, AreNext, ending_of, arrived_to};
 
 use ak_base::list::NoMemory;
 use ak_exec::world::{
-    World, arrive, begin_cycle, can_pick, finish, more, outstanding, quiet, set_left, stuck,
+    World, arrive, arrive_request, begin_cycle, can_pick, finish, more, outstanding, quiet,
+    set_left, stuck,
 };
 use ak_labor::port::{Port, PortError};
 use ak_labor::work::Arrivals;
@@ -59,7 +60,7 @@ pub fn reach_pick<P: Port>(
     }
 }
 
-/// One drain, whose works arrive. The answer is whether the run goes on: an error that nobody catches ends it.
+/// One drain, whose works and then requests arrive. The answer is whether the run goes on: an error that nobody catches ends it.
 fn fetch<P: Port>(
     world: &mut World,
     port: &mut P,
@@ -87,6 +88,7 @@ fn fetch<P: Port>(
     port.drain(arrivals)?;
     match arrive_all(world, arrivals)? {
         Flow::On => {
+            arrive_requests(world, arrivals)?;
             set_left(world, arrivals.left());
             Ok(true)
         }
@@ -131,8 +133,60 @@ fn arrive_at(world: &mut World, arrivals: &Arrivals, k: usize) -> Result<Flow, N
     }
 }
 
-/// Begins the next cycle where something is left to do, or where a work may come; and else ends the run. The answer is whether
-/// it goes on.
+/// The requests of a drain arrive in order.
+fn arrive_requests(world: &mut World, arrivals: &Arrivals) -> Result<(), NoMemory>
+    requires free { world.old.picked ≡ None }
+    requires served { MayBeServed world.old.program.ask arrivals.now.requests }
+    requires next { AreNext arrivals.now.requests world.old.plain }
+    ensures arrived { OnOk result (requests_served world.old.program.ask arrivals.now.requests
+        world.old.plain ≡ Some world.new.plain) }
+    ensures world { OnOk result (world.new ≡ with_state world.new.plain world.old) }
+{
+    for k in 0..arrivals.requests() {
+        request_at(world, arrivals, k)?;
+    }
+    Ok(())
+}
+
+/// One of them arrives.
+fn request_at(world: &mut World, arrivals: &Arrivals, k: usize) -> Result<(), NoMemory>
+    requires free { world.old.picked ≡ None }
+    requires some { k < length arrivals.now.requests }
+    requires served { MayBeServed world.old.program.ask (drop k arrivals.now.requests) }
+    requires next { AreNext (drop k arrivals.now.requests) world.old.plain }
+    ensures arrived { OnOk result
+        (requests_served world.old.program.ask (drop k arrivals.now.requests) world.old.plain
+        ≡ requests_served world.new.program.ask (drop (k + 1) arrivals.now.requests)
+        world.new.plain) }
+    ensures served { OnOk result
+        (MayBeServed world.new.program.ask (drop (k + 1) arrivals.now.requests)) }
+    ensures next { OnOk result (AreNext (drop (k + 1) arrivals.now.requests) world.new.plain) }
+    ensures world { OnOk result (world.new ≡ with_state world.new.plain world.old) }
+{
+    let Some((no, num)) = arrivals.request(k) else {
+        unreachable!()
+    };
+    arrive_request(world, *no, *num)?;
+    Ok(())
+}
+
+/// Why the run ends, where no job can be picked and nothing is left to do: `None` where a request or a work may come.
+fn ending(world: &World) -> Option<Ending>
+    ensures { result ≡ ending_of world.now.config.threads world.now.plain }
+{
+    if !quiet(world) {
+        None
+    } else if !outstanding(world) {
+        Some(Ending::Idle)
+    } else if stuck(world) {
+        Some(Ending::Stuck)
+    } else {
+        None
+    }
+}
+
+/// Begins the next cycle where something is left to do, or where a request or a work may come; and else ends the run. The
+/// answer is whether it goes on.
 fn end_cycle<P: Port>(world: &mut World, port: &mut P) -> Result<bool, PortError<P::Fault>>
     requires served { IsServed world.old.program world.old.config world.old
         (P.asked port.old) (P.replies port.old) (P.waits port.old) }
@@ -144,7 +198,7 @@ fn end_cycle<P: Port>(world: &mut World, port: &mut P) -> Result<bool, PortError
     ensures left { IfOk result (λ on. on ≡ true
         → drains_left world.new (has_waited (P.asked port.new) (P.waits port.new))
         ≤ (if has_more world.old.plain then 2 else 1)) }
-    ensures works { OnOk result (length world.new.plain.works ≡ length world.old.plain.works) }
+    ensures come { OnOk result (may_come world.new.plain ≡ may_come world.old.plain) }
     ensures ran { OnOk result (world.new.ran ≡ world.old.ran) }
     ensures threads { P.threads port.new ≡ P.threads port.old }
     ensures askers { P.askers port.new ≡ P.askers port.old }
@@ -160,17 +214,15 @@ fn end_cycle<P: Port>(world: &mut World, port: &mut P) -> Result<bool, PortError
         begin_cycle(world)?;
         return Ok(true);
     }
-    // For the proof alone: no asker may ask.
-    let _quiet = quiet(world);
-    if !outstanding(world) {
-        finish(world, Ending::Idle)?;
-        return Ok(false);
+    match ending(world) {
+        Some(why) => {
+            finish(world, why)?;
+            Ok(false)
+        }
+        None => {
+            port.wait()?;
+            begin_cycle(world)?;
+            Ok(true)
+        }
     }
-    if stuck(world) {
-        finish(world, Ending::Stuck)?;
-        return Ok(false);
-    }
-    port.wait()?;
-    begin_cycle(world)?;
-    Ok(true)
 }

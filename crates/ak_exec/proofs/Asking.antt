@@ -41,10 +41,14 @@ use Rattle.ak_ledger.proofs.Still.{AfterHas}
 use Rattle.ak_ledger.proofs.Lines.{ProgressHas, lines_keep, frame_keeps}
 use Rattle.ak_ledger.proofs.Calls.{came_same, left_same}
 use Rattle.ak_ledger.proofs.InStep.{step_still, asks_well}
+use Rattle.ak_ledger.specs.Answers.{AnswersAreOwed}
+use Rattle.ak_ledger.proofs.Answering.{answer_asked}
+use Rattle.ak_ledger.proofs.Owing.{Owed, OwedAsking, noted_owed, lines_owed, helper_owed, after_owed}
+use Rattle.ak_frames.specs.declared.frame.Frame.{Frame}
 use Rattle.ak_state.specs.Seen.{Seen}
-use Rattle.ak_state.specs.Drawn.{Drawn, drawn}
+use Rattle.ak_state.specs.Drawn.{drawn}
 use Rattle.ak_state.specs.Errors.{after_is}
-use Rattle.ak_state.specs.Fits.{JobFits, FrameFits, ValsFit}
+use Rattle.ak_state.specs.Fits.{ValsFit}
 use Rattle.ak_exec.specs.Asks.{PoolTakes, Answers, reply_is, resumed, bound_to, ResumesWay, ResumesReturn, IsRunning, lines_left, Leads, FaultsFrom, StopsFrom, IsInStepAfter, IsQuietSince, IsNoMemory}
 use Rattle.ak_exec.specs.Steps.{IsNumbered, ProgressTells, rest_is, progress_is}
 use Rattle.ak_exec.specs.Typed.{IsPaused, ProgressFits}
@@ -163,13 +167,14 @@ module _ (askers : ℕ) (asked : List Ask) (replies : List Reply) (even : length
       lines_keep (IsInStep askers asked replies) (IsAskable askers asked replies) (step_still askers asked replies) (asks_well askers asked replies even)
       ctx ret lines s vals h
 
-  -- a job that answers no request
-  pub job_in_step : (program : List NumProc) (n : Drawn) (job : Job Task) (s : State) → JobFits program n job → IsInStep askers asked replies s
+  pub job_in_step : (program : List NumProc) (job : Job Task) (s : State) → AnswersAreOwed (job.frame.frame ∷ []) s → IsInStep askers asked replies s
       → ProgressHas (IsInStep askers asked replies) (IsAskable askers asked replies) (run_job program job s)
-  job_in_step program n job s f h =
-      frame_keeps (IsInStep askers asked replies) (IsAskable askers asked replies) (step_still askers asked replies) (asks_well askers asked replies even)
-      program job.ctx job.frame.frame (value_or_zero job.frame.value) (noting (entry.Job job.no) s) h
-      (λ q e. absurd (subst (FrameFits program n) e f.frame_fits))
+  job_in_step program job s o h =
+      let t : State = noting (entry.Job job.no) s
+      in frame_keeps (IsInStep askers asked replies) (IsAskable askers asked replies) (step_still askers asked replies) (asks_well askers asked replies even)
+      program job.ctx job.frame.frame (value_or_zero job.frame.value) t h
+      (λ q e. answer_asked askers asked replies even [] q (value_or_zero job.frame.value) t
+      (subst (λ (f : Frame). AnswersAreOwed (f ∷ []) t) e (noted_owed (job.frame.frame ∷ []) (entry.Job job.no) s o)) h)
 
 -- a state in step behind the call
 resumed_in_step : (askers : ℕ) (asked : List Ask) (replies : List Reply) (a : Ask) (x : Answer) (rest : Rest) (s : State) → Answers a x
@@ -195,6 +200,16 @@ resumed_in_step askers asked replies a x rest s e even h =
     by ask.Drain y k g n = absurd k
     by ask.Close y k g n = absurd k
 
+-- so many answers are to come behind it
+resumed_owed : (a : Ask) (x : Answer) (rest : Rest) (s : State) → Answers a x → Owed s → ProgressHas Owed OwedAsking (resumed x rest s)
+resumed_owed a answer.Done rest s e h = lines_owed rest.ctx rest.ret rest.lines s rest.vals h
+resumed_owed a (answer.Helper which granted) rest s e h =
+    lines_owed rest.ctx rest.ret rest.lines (with_helper granted s) (bound_to which granted rest.vals) (helper_owed granted s h)
+
+-- and when it is over
+pub over_owed : (s : Seen) (far : Came) (f : Flow) → far ≡ came.Over f → ProgressHas Owed OwedAsking (progress_is s far) → Owed s.plain
+over_owed s far f e h = after_owed f s.plain (subst (λ (x : Came). ProgressHas Owed OwedAsking (progress_is s x)) e h)
+
 -- ---- a job behind one call more
 pub resumed_running : (program : List NumProc) (askers askers' : ℕ) (old new : Seen) (a : Ask) (x : Answer) (rest : LeftOver) (far : Came)
     (asked asked' : List Ask) (replies replies' : List Reply) → IsRunning program askers old (came.Asking a rest) asked replies → Answers a x
@@ -204,6 +219,7 @@ resumed_running program askers askers' old new a x rest far asked asked' replies
   fits = fits;
   told = told;
   held = subst (ProgressIs program) runs (paused_held program a x (rest_is old rest) old.plain e run.held);
+  owed = subst (ProgressHas Owed OwedAsking) runs (resumed_owed a x (rest_is old rest) old.plain e run.owed);
   opened = open_more asked asked' replies replies' a (reply_is x) (no_close a x e) run.opened ea er;
   in_step =
       subst (λ (p : Progress). ProgressHas (IsInStep askers' asked' replies') (IsAskable askers' asked' replies') p) runs

@@ -6,6 +6,7 @@ pub mod Way
 pub mod Returned
 pub mod Picks
 pub mod Asking
-mod Whole
+pub mod Whole
 mod Throttled
 mod Piped
+mod Answered

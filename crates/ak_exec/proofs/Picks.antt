@@ -40,6 +40,7 @@ rest_fits P (x ∷ xs) h = h.1
 by_fits : (program : List NumProc) (n : Drawn) (a b : Option (Job Task)) (s : State) → StateFits program n s
     → StateFits program n (record s { queues = picked_by a b s.queues })
 by_fits program n (Some job) b s f = record {
+  root = f.root;
   handlers = f.handlers;
   normal = rest_fits (JobFits program n) s.queues.normal f.normal;
   low = f.low;
@@ -51,6 +52,7 @@ by_fits program n (Some job) b s f = record {
   works = f.works;
 }
 by_fits program n None (Some job) s f = record {
+  root = f.root;
   handlers = f.handlers;
   normal = f.normal;
   low = rest_fits (JobFits program n) s.queues.low f.low;
@@ -62,6 +64,7 @@ by_fits program n None (Some job) s f = record {
   works = f.works;
 }
 by_fits program n None None s f = record {
+  root = f.root;
   handlers = f.handlers;
   normal = f.normal;
   low = f.low;

@@ -22,6 +22,7 @@ use Rattle.ak_machine.specs.Job.{Rest, Progress, Asking, run_lines}
 use Rattle.ak_machine.specs.Run.{Machine, progressed, machine_after}
 use Rattle.ak_holders.specs.Returns.{LinesReturn}
 use Rattle.ak_holders.proofs.Carry.{ProgressIs}
+use Rattle.ak_ledger.specs.Answers.{AnswersAreOwed}
 use Rattle.ak_ledger.specs.Outside.{IsInStep, IsAskable}
 use Rattle.ak_ledger.proofs.Lines.{ProgressHas}
 use Rattle.ak_state.specs.Seen.{Seen}
@@ -78,12 +79,13 @@ ResumesReturn (answer.Helper which granted) rest s =
     LinesReturn rest.ctx rest.ret rest.lines (with_helper granted s) (bound_to which granted rest.vals)
 
 -- ---- a job over a port
--- a job that came so far behind these calls: all fits, each name has one holder, and the state is in step with the calls, or will
--- be once the call that it makes has its reply
+-- a job that came so far behind these calls: all fits, each name has one holder, each request that has no answer has one to come
+-- at the most, and the state is in step with the calls, or will be once the call that it makes has its reply
 pub record IsRunning (program : List NumProc) (askers : ℕ) (s : Seen) (came : Came) (asked : List Ask) (replies : List Reply) : Type 0 where
   pub fits : ProgressFits program s came
   pub told : ProgressTells came s.plain.trace
   pub held : ProgressIs program (progress_is s came)
+  pub owed : ProgressHas (λ t. AnswersAreOwed [] t) (λ a t. AnswersAreOwed [] t) (progress_is s came)
   pub opened : IsOpen asked replies
   pub in_step : ProgressHas (IsInStep askers asked replies) (IsAskable askers asked replies) (progress_is s came)
 

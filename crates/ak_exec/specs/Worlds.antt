@@ -21,6 +21,7 @@ use Rattle.ak_state.specs.Errors.{after_is}
 use Rattle.ak_state.specs.Drawn.{drawn}
 use Rattle.ak_state.specs.Fits.{JobFits, Fits}
 use Rattle.ak_holders.specs.Held.{HeldBeside}
+use Rattle.ak_ledger.specs.Answers.{AnswersAreOwed, hand_of}
 
 -- the program and the settings, the plain state, the job that was picked and has not run, and how many jobs were picked
 pub record Worldly : Type 0 where
@@ -41,13 +42,14 @@ pub record ServesAskers (program : NumProgram) (askers : ℕ) : Type 0 where
   pub served : (askers ≡ 0) ⊎ IsSome program.ask
 
 -- all that a world holds fits its program; a cycle has room for a job; a procedure serves the askers;
--- and each name has at most one holder
+-- each name has at most one holder; and each request that has no answer has one to come at the most
 pub record IsWhole (w : Worldly) : Type 0 where
   pub limit : 1 ≤ w.config.limit
   pub askers : ServesAskers w.program w.config.askers
   pub fits : Fits w.program.procs w.plain
   pub picked : IfSome w.picked (JobFits w.program.procs (drawn w.plain))
   pub held : HeldBeside w.program.procs w.picked w.plain
+  pub owed : AnswersAreOwed (hand_of w.picked) w.plain
 
 -- how many jobs were picked, with one more where there is a pick
 abbrev pub ran_with : {A : Type 0} → Option A → ℕ → ℕ

@@ -1,9 +1,10 @@
 //! Jobs that ask the pool, over a port.
 
-ghost use Rattle.std.specs.Prelude.{◌≡◌, ◌≤◌, ◌<◌, ◌+◌, [], length, IfOk, OnOk};
+ghost use Rattle.std.specs.Prelude.{◌≡◌, ◌≤◌, ◌<◌, ◌+◌, [], length, Some, IfOk, OnOk};
 ghost use Rattle.ak_labor.specs.Calls.{IsAsked, IsOpen, IsFault};
 ghost use Rattle.ak_machine.specs.Job.{Over, run_job as job_run};
 ghost use Rattle.ak_holders.specs.Held.{HeldBy, JobWaits};
+ghost use Rattle.ak_ledger.specs.Answers.{AnswersAreOwed, hand_of};
 ghost use Rattle.ak_ledger.specs.Outside.{IsInStep};
 ghost use Rattle.ak_state.specs.Drawn.{drawn};
 ghost use Rattle.ak_state.specs.Errors.{after_is, Ends};
@@ -42,12 +43,14 @@ pub fn run_through<P: Port>(
     requires job { JobFits program.now.procs (drawn parts.old.plain) (job_named parts.old job) }
     requires waits { JobWaits program.now.procs (job_named parts.old job) parts.old.plain }
     requires fits { Fits program.now.procs parts.old.plain }
+    requires owed { AnswersAreOwed (hand_of (Some (job_named parts.old job))) parts.old.plain }
     requires open { IsOpen (P.asked port.old) (P.replies port.old) }
     requires in_step { IsInStep (P.askers port.old) (P.asked port.old) (P.replies port.old)
         parts.old.plain }
     ensures fits { OnOk result (Fits program.now.procs parts.new.plain) }
     ensures told { IfOk result (λ flow. Ends flow parts.new.plain.trace) }
     ensures held { OnOk result (HeldBy program.now.procs [] parts.new.plain) }
+    ensures owed { OnOk result (AnswersAreOwed [] parts.new.plain) }
     ensures open { OnOk result (IsOpen (P.asked port.new) (P.replies port.new)) }
     ensures quiet { OnOk result
         (IsQuietSince (P.askers port.old) (P.replies port.old) (P.replies port.new)) }

@@ -1,19 +1,20 @@
 //! What the job of each kind of frame does.
 
 ghost use Rattle.std.specs.Prelude.{◌≡◌, ◌<◌, ◌∷◌, length, None, IfOk, IfSome};
-ghost use Rattle.ak_machine.specs.Job.{run_frame as frame_run, run_call_if as call_run, value_or_zero};
+ghost use Rattle.ak_machine.specs.Job.{run_frame as frame_run, run_call_if as call_run, value_or_zero, nothing_left as no_rest};
 ghost use Rattle.ak_holders.specs.Returns.{FrameReturns, CallReturns};
 ghost use Rattle.ak_state.specs.Drawn.{drawn};
 ghost use Rattle.ak_state.specs.Fits.{Fits, FrameFits, CallbackFits};
 ghost use Rattle.ak_state.specs.Reads.{frame_named, call_named};
-ghost use Rattle.ak_exec.specs.Steps.{ProgressTells, progress_is};
+ghost use Rattle.ak_exec.specs.Steps.{ProgressTells, progress_is, rest_is};
 ghost use Rattle.ak_exec.specs.Typed.{ProgressFits};
 
-use crate::job::{Progress, Running, run_call};
+use crate::job::{Progress, Rest, Running, run_call};
 use ak_base::list::{Items, NoMemory};
 use ak_base::number::{Ctx, Num};
 use ak_frames::frame::{Frame, Ret, Task};
 use ak_frames::value::{Vals, Value};
+use ak_labor::ask::Ask;
 use ak_machine::flow::Flow;
 use ak_machine::held::Callback;
 use ak_program::program::Program;
@@ -117,6 +118,25 @@ pub fn run_task<'p>(
             let raised = parts.send(ctx.mon, num)?;
             Ok(Progress::Over(raised))
         }
-        _ => unreachable!(),
+        Frame::AnswerOut { request } => {
+            let num = number_of(value);
+            parts.answer_out(request, num)?;
+            let ask = Ask::Answer { no: request, num };
+            Ok(Progress::Asking(ask, nothing_left(parts, ctx)))
+        }
+    }
+}
+
+/// A job that has nothing left but its end, with a return that goes nowhere.
+fn nothing_left<'p>(parts: &Parts, ctx: Ctx) -> Rest<'p>
+    ensures { rest_is parts.now result ≡ no_rest ctx }
+{
+    Rest {
+        running: Running {
+            ctx,
+            ret: Ret::Drop,
+        },
+        vals: parts.no_vals(),
+        lines: &[],
     }
 }

@@ -1,11 +1,11 @@
 //! The scheduler's state with its program, and the calls that a cycle is made of.
 
-ghost use Rattle.std.specs.Prelude.{◌≡◌, ◌≤◌, ◌<◌, not, find, IsSome, Some, None, OnOk, OnErr, IfOk, nat_le, false, true};
+ghost use Rattle.std.specs.Prelude.{◌≡◌, ◌≤◌, ◌<◌, [], ◌∷◌, length, not, find, IsSome, Some, None, OnOk, OnErr, IfOk, nat_le, false, true};
 ghost use Rattle.std.specs.Option.{option_map};
 ghost use Rattle.ak_base.specs.Lists.{is_empty_list};
 ghost use Rattle.ak_rings.specs.Queues.{pick_of, has_pick};
 ghost use Rattle.ak_labor.specs.Calls.{IsOpen, IsFault};
-ghost use Rattle.ak_machine.specs.Cycle.{cycle_begun, has_more, is_stuck, is_quiet, with_left, is_work, arrive as arrives};
+ghost use Rattle.ak_machine.specs.Cycle.{cycle_begun, has_more, is_stuck, is_quiet, with_left, is_work, arrive as arrives, requests_served};
 ghost use Rattle.ak_machine.specs.Deferred.{noting};
 ghost use Rattle.ak_state.specs.Errors.{Ends, after_is};
 ghost use Rattle.ak_exec.specs.Throttled.{ThrottlesHold};
@@ -15,7 +15,7 @@ ghost use Rattle.ak_exec.specs.Asks.{IsInStepAfter, IsQuietSince, IsNoMemory};
 
 use crate::asks::run_through;
 use ak_base::list::{Items, NoMemory};
-use ak_base::number::{Ctx, JobNo, MonNo, WorkNo};
+use ak_base::number::{Ctx, JobNo, MonNo, Num, RequestNo, WorkNo};
 use ak_frames::frame::{Frame, Ret, Task};
 use ak_labor::config::Config;
 use ak_labor::port::{Port, PortError};
@@ -190,6 +190,32 @@ pub fn arrive(world: &mut World, work: WorkNo, outcome: Outcome) -> Result<Flow,
     }
 }
 
+/// A request of the next number comes to a world whose program has a procedure `ask`: its answer goes out from a fresh deferred,
+/// to which the call of `ask` with the request's number returns.
+///
+/// # Errors
+///
+/// `NoMemory`. The world is given up then.
+pub fn arrive_request(world: &mut World, no: RequestNo, num: Num) -> Result<(), NoMemory>
+    requires served { IsSome world.old.program.ask }
+    requires next { no ≡ length world.old.plain.requests }
+    requires free { world.old.picked ≡ None }
+    ensures arrived { OnOk result (requests_served world.old.program.ask ((no, num) ∷ [])
+        world.old.plain ≡ Some world.new.plain) }
+    ensures world { OnOk result (world.new ≡ with_state world.new.plain world.old) }
+{
+    let Some(ask) = world.program.ask() else {
+        unreachable!()
+    };
+    match world.parts.arrive_request(ask, no, num) {
+        Ok(()) => Ok(()),
+        Err(e) => {
+            world.parts.reset(world.config.limit, world.config.askers);
+            Err(e)
+        }
+    }
+}
+
 /// Begins a cycle: the pending yields are filled, and then the alarms that are due. There is a job to pick then exactly
 /// where something is left to do.
 ///
@@ -248,10 +274,9 @@ pub fn set_left(world: &mut World, left: u32)
     world.parts.set_left(left);
 }
 
-/// Whether every asker that is left waits for an answer. No request has arrived, as requests are not built.
+/// Whether every asker that is left waits for an answer.
 pub fn quiet(world: &World) -> bool
-    ensures quiet { result ≡ is_quiet world.now.plain }
-    ensures none_left { world.now.plain.left ≡ 0 → result ≡ true }
+    ensures { result ≡ is_quiet world.now.plain }
 {
     world.parts.is_quiet()
 }

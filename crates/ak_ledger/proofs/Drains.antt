@@ -132,11 +132,11 @@ pub arrived_outside : (w : ℕ) (outcome : Outcome) (s : State) (after : After) 
 arrived_outside w outcome s after e f = arrived_by (find (is_work w) s.works) w outcome s after e f
 
 -- ---- all of a drain
-abbrev left_out : List (ℕ × Outcome) → List (ℕ × Option ℕ) → List (ℕ × Option ℕ)
+abbrev pub left_out : List (ℕ × Outcome) → List (ℕ × Option ℕ) → List (ℕ × Option ℕ)
 left_out [] works = works
 left_out (pair ∷ pairs) works = left_out pairs (filter (has_other_number pair.0) works)
 
-abbrev without_all : List (ℕ × Outcome) → Outside → Outside
+abbrev pub without_all : List (ℕ × Outcome) → Outside → Outside
 without_all pairs o = record o { works = left_out pairs o.works }
 
 some_is : (a b : After) → Some a ≡ Some b → a ≡ b
@@ -212,7 +212,7 @@ not_or : (a b : Bool) → not (a || b) ≡ (not a && not b)
 not_or true b = refl
 not_or false b = refl
 
-left_out_is : (pairs : List (ℕ × Outcome)) (handed : List Handed) → left_out pairs (map work_handed handed) ≡ map work_handed (filter (is_left pairs) handed)
+pub left_out_is : (pairs : List (ℕ × Outcome)) (handed : List Handed) → left_out pairs (map work_handed handed) ≡ map work_handed (filter (is_left pairs) handed)
 left_out_is [] handed = ap (map work_handed) (sym (filter_all (is_left []) (λ h. refl) handed))
 left_out_is (pair ∷ pairs) handed =
     ap (left_out pairs) (sym (others_handed pair.0 handed))
@@ -221,7 +221,7 @@ left_out_is (pair ∷ pairs) handed =
     (filter_twice (is_left pairs) (is_other pair.0) (is_left (pair ∷ pairs))
     (λ h. not_or (pair.0 == h.id) (list_any (is_pair_of h.id) pairs) ∙ ap (λ b. not b && is_left pairs h) (eq_turned pair.0 h.id)) handed)
 
-drained_out : (asked : List Ask) (replies : List Reply) (arrived : Arrived)
+pub drained_out : (asked : List Ask) (replies : List Reply) (arrived : Arrived)
     → outstanding (asked ++ ask.Drain ∷ []) (replies ++ Drained arrived ∷ []) ≡ filter (is_left arrived.works) (outstanding asked replies)
 drained_out asked replies arrived =
     ap (filter (is_out (replies ++ Drained arrived ∷ []))) (none_more handed_by asked ask.Drain refl)
@@ -255,12 +255,12 @@ fewer_below n w (x ∷ works) h = by (has_other_number w x) (fewer_below n w wor
     by true k = (h.0, k)
     by false k = k
 
-left_below : (n : ℕ) (pairs : List (ℕ × Outcome)) (works : List (ℕ × Option ℕ)) → AllByRecursion (λ (x : ℕ × Option ℕ). x.0 < n) works
+pub left_below : (n : ℕ) (pairs : List (ℕ × Outcome)) (works : List (ℕ × Option ℕ)) → AllByRecursion (λ (x : ℕ × Option ℕ). x.0 < n) works
     → AllByRecursion (λ (x : ℕ × Option ℕ). x.0 < n) (left_out pairs works)
 left_below n [] works h = h
 left_below n (pair ∷ pairs) works h = left_below n pairs (filter (has_other_number pair.0) works) (fewer_below n pair.0 works h)
 
-pairs_below : (n : ℕ) (pairs : List (ℕ × Outcome)) (works : List (ℕ × Option ℕ)) → AreOut works pairs → AllByRecursion (λ (x : ℕ × Option ℕ). x.0 < n) works
+pub pairs_below : (n : ℕ) (pairs : List (ℕ × Outcome)) (works : List (ℕ × Option ℕ)) → AreOut works pairs → AllByRecursion (λ (x : ℕ × Option ℕ). x.0 < n) works
     → AllByRecursion (λ (pair : ℕ × Outcome). pair.0 < n) pairs
 pairs_below n [] works a h = tt
 pairs_below n (pair ∷ pairs) works a h = (

@@ -5,3 +5,8 @@ pub mod Calls
 pub mod InStep
 pub mod Drains
 pub mod Waiting
+pub mod Owed
+pub mod Answering
+pub mod Owing
+pub mod Requests
+pub mod Quiet

@@ -1,2 +1,4 @@
 pub mod Outside
 pub mod Tallies
+pub mod Answers
+pub mod Story

@@ -2,6 +2,7 @@
 
 ghost use Rattle.std.specs.Prelude.{◌≡◌, ◌≤◌, IfOk, IfErr};
 ghost use Rattle.ak_history.specs.Legal.{Legal};
+ghost use Rattle.ak_exec.specs.Worlds.{ServesAskers};
 ghost use Rattle.ak_meets.specs.Meets.{Meeting, Meets};
 ghost use Rattle.ak_rerun.specs.Reruns.{IsRerun, DepartsFrom, Tells};
 
@@ -32,7 +33,8 @@ pub enum RerunRefused {
 }
 
 /// Runs a program over the record of a pool: a history that is legal for the threads of the settings. At most
-/// `config.limit` jobs of a priority run in a cycle, which is at least 1. There are no askers yet. Own.
+/// `config.limit` jobs of a priority run in a cycle, which is at least 1. There are at most 16 askers, and none where the program
+/// has no procedure `ask`. Own.
 ///
 /// `Ok` exactly where the run and the record go together to the run's end, want of memory aside: the trace is the machine's
 /// for the replies of the record, and the record holds exactly the calls that the machine makes.
@@ -48,7 +50,7 @@ pub fn rerun(
     history: History,
 ) -> Result<Replayed, RerunRefused>
     requires limit { 1 ≤ config.limit }
-    requires no_askers { config.askers ≡ 0 }
+    requires served { ServesAskers program config.askers }
     requires legal { Legal config.threads config.askers history }
     ensures ran { IfOk result (λ ran.
         IsRerun program config history ran.trace × (ran.history ≡ history)) }
@@ -72,7 +74,7 @@ fn run_on<B: Naming>(
       history = history;
     } }
     requires limit { 1 ≤ config.limit }
-    requires no_askers { config.askers ≡ 0 }
+    requires served { ServesAskers program config.askers }
     requires legal { Legal config.threads config.askers history }
     ensures ran { IfOk result (λ ran.
         IsRerun program config history ran.trace × (ran.history ≡ history)) }

@@ -107,6 +107,7 @@ streams_grow : (program : List NumProc) (xs : List (Throttle Body)) (ys : List (
 streams_grow program xs ys s f e z =
     same_grows program s (record s { throttles = xs; started = ys }) (ap (λ k. record (drawn s) { throttles = k }) e)
     (record {
+      root = f.root;
       handlers = f.handlers;
       normal = f.normal;
       low = f.low;
@@ -162,6 +163,7 @@ fresh_grows program most stop s f =
       more = more;
       fits =
           record {
+            root = g.root;
             handlers = g.handlers;
             normal = g.normal;
             low = g.low;

@@ -185,6 +185,7 @@ choice_decided_grows program g s f =
     in let one = decided_grows program g s f
     in let two = same_grows program u v (ap (λ xs. record (drawn u) { ivars = length xs }) (unregistered_ivars notes s.cells))
     (record {
+      root = one.fits.root;
       handlers = unregistered_fit (HandlerFits program (drawn u)) notes s.cells one.fits.handlers;
       normal = one.fits.normal;
       low = one.fits.low;

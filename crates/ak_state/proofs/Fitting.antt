@@ -24,7 +24,7 @@ use Rattle.ak_frames.specs.declared.value.Value.TheVariants as value
 use Rattle.ak_frames.specs.declared.frame.Ret.{Ret}
 use Rattle.ak_frames.specs.declared.frame.Ret.TheVariants.{Drop, To, TryBody, ThrottleBody}
 use Rattle.ak_frames.specs.declared.frame.Frame.{Frame}
-use Rattle.ak_frames.specs.declared.frame.Frame.TheVariants.{Call, OnValue, TryDone, BodyDone, BodyFailed, Raise, AllPart, ChoicePart}
+use Rattle.ak_frames.specs.declared.frame.Frame.TheVariants.{Call, OnValue, TryDone, BodyDone, BodyFailed, Raise, AllPart, ChoicePart, AnswerOut}
 use Rattle.ak_frames.specs.declared.frame.Task.{Task}
 use Rattle.ak_trace.specs.declared.entry.Entry.{Entry}
 use Rattle.ak_trace.specs.declared.entry.Entry.TheVariants as entry
@@ -183,7 +183,7 @@ frame_grows program n n' h (TryDone g) f = omega (arith, h.groups, f)
 frame_grows program n n' h (BodyDone b) f = tt
 frame_grows program n n' h (BodyFailed b e) f = tt
 frame_grows program n n' h (Raise e) f = tt
-frame_grows program n n' h frame f = absurd f
+frame_grows program n n' h (AnswerOut q) f = tt
 
 pub held_grows : (program : List NumProc) (n n' : Drawn) → More n n' → (ctx : Ctx) (frame : Frame) → HeldFits program n ctx frame
     → HeldFits program n' ctx frame
@@ -346,7 +346,7 @@ frame_mapped_fits program g n h (TryDone x) f = f
 frame_mapped_fits program g n h (BodyDone b) f = tt
 frame_mapped_fits program g n h (BodyFailed b e) f = tt
 frame_mapped_fits program g n h (Raise e) f = tt
-frame_mapped_fits program g n h frame f = absurd f
+frame_mapped_fits program g n h (AnswerOut q) f = tt
 
 held_mapped : (program : List NumProc) (g : ℕ → ℕ) (n : Drawn) → ((i : ℕ) → i < n.ivars → g i < n.ivars) → (ctx : Ctx) (frame : Frame)
     → HeldFits program n ctx frame → HeldFits program n ctx (frame_mapped g frame)
@@ -458,6 +458,7 @@ pipe_fits_mapped program g n h x f = record {
 -- ---- the changes of a state
 pub grown_fits : (program : List NumProc) (n n' : Drawn) (s : State) → More n n' → StateFits program n s → StateFits program n' s
 grown_fits program n n' s h f = record {
+  root = omega (arith, h.monitors, f.root);
   handlers = all_by (HandlerFits program n) (HandlerFits program n') (λ g. held_grows program n n' h g.ctx g.frame) s.cells.registrations f.handlers;
   normal = all_by (JobFits program n) (JobFits program n') (λ job. held_grows program n n' h job.ctx job.frame.frame) s.queues.normal f.normal;
   low = all_by (JobFits program n) (JobFits program n') (λ job. held_grows program n n' h job.ctx job.frame.frame) s.queues.low f.low;
@@ -476,6 +477,7 @@ job_pushed : (program : List NumProc) (n : Drawn) (b : Bool) (job : Job Task) (q
           (record q { normal = q.normal ++ job ∷ []; next = q.next + 1 });
     }))
 job_pushed program n true job q s f p e = record {
+  root = f.root;
   handlers = f.handlers;
   normal = f.normal;
   low = all_push (JobFits program n) q.low job f.low p;
@@ -487,6 +489,7 @@ job_pushed program n true job q s f p e = record {
   works = f.works;
 }
 job_pushed program n false job q s f p e = record {
+  root = f.root;
   handlers = f.handlers;
   normal = all_push (JobFits program n) q.normal job f.normal p;
   low = f.low;
@@ -508,6 +511,7 @@ register_at_fits : (program : List NumProc) (n : Drawn) (o : Option ℤ) (i : �
 register_at_fits program n (Some v) i ctx frame s f p = enqueue_fits program n ctx (woken_task frame v) s f p
 register_at_fits program n None i ctx frame s f p =
     record {
+      root = f.root;
       handlers = all_push (HandlerFits program n) s.cells.registrations
           (record { number = s.cells.next; ivar = i; ctx = ctx; frame = frame }) f.handlers p;
       normal = f.normal;
@@ -529,6 +533,7 @@ fill_empty_fits : (program : List NumProc) (n : Drawn) (i : ℕ) (v : ℤ) (s : 
 fill_empty_fits program n i v s f =
     woken_fits program n v (waiting_on i s.cells) (noting (entry.Fill i v) (record s { cells = filled i v s.cells }))
     (record {
+      root = f.root;
       handlers = all_filter (HandlerFits program n) (is_off i) s.cells.registrations f.handlers;
       normal = f.normal;
       low = f.low;
@@ -558,6 +563,7 @@ renamed_fits program n from to s h f =
     let g : ℕ → ℕ = renamed from to
     in let p : (i : ℕ) → i < n.ivars → g i < n.ivars = λ i q. renamed_below from to n.ivars i h q
     in record {
+      root = f.root;
       handlers =
           all_map (HandlerFits program n) (HandlerFits program n) (registration_mapped g)
           (λ r. held_mapped program g n p r.ctx r.frame) s.cells.registrations f.handlers;
@@ -694,6 +700,7 @@ clock_set_grows program c s f p = record {
   more = same_more (drawn s);
   fits =
       record {
+        root = f.root;
         handlers = f.handlers;
         normal = f.normal;
         low = f.low;

@@ -118,6 +118,7 @@ group_grows program parts purpose s f p =
       more = more;
       fits =
           record {
+            root = g.root;
             handlers = g.handlers;
             normal = g.normal;
             low = g.low;
@@ -143,6 +144,7 @@ pub regrouped_grows : (program : List NumProc) (gs : List groups.Group) (s : Sta
 regrouped_grows program gs s e f =
     same_grows program s (record s { groups = gs }) (regrouped_drawn gs s e)
     (record {
+      root = f.root;
       handlers = f.handlers;
       normal = f.normal;
       low = f.low;

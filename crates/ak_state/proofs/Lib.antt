@@ -15,3 +15,4 @@ pub mod Errors
 pub mod Alarms
 pub mod Works
 mod Kept
+pub mod Served

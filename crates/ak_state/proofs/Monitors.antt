@@ -156,6 +156,7 @@ child_grows program parent s f =
       more = more;
       fits =
           record {
+            root = g.root;
             handlers = g.handlers;
             normal = g.normal;
             low = g.low;
@@ -175,6 +176,7 @@ pub set_grows : (program : List NumProc) (m : ℕ) (x : Monitor Handler) (s : St
 set_grows program m x s f p =
     same_grows program s (record s { monitors = slice_set s.monitors m x }) (ap (λ k. record (drawn s) { monitors = k }) (length-set s.monitors m x))
     (record {
+      root = f.root;
       handlers = f.handlers;
       normal = f.normal;
       low = f.low;

@@ -46,6 +46,7 @@ pub set_pipe_grows : (program : List NumProc) (p : ℕ) (x : Pipe Read) (s : Sta
 set_pipe_grows program p x s f h =
     same_grows program s (with_pipe_at p x s) (ap (λ k. record (drawn s) { pipes = k }) (length-set s.pipes p x))
     (record {
+      root = f.root;
       handlers = f.handlers;
       normal = f.normal;
       low = f.low;
@@ -78,6 +79,7 @@ pipe_grows program budget s f =
       more = more;
       fits =
           record {
+            root = g.root;
             handlers = g.handlers;
             normal = g.normal;
             low = g.low;

@@ -106,6 +106,7 @@ handed_in_grows : (program : List NumProc) (ctx : Ctx) (to : ℕ) (helper : Opti
 handed_in_grows program ctx to helper s mon drawn_to f = record {
   more = same_more (drawn s);
   fits = record {
+    root = f.root;
     handlers = f.handlers;
     normal = f.normal;
     low = f.low;
@@ -131,6 +132,7 @@ pub taken_grows : (program : List NumProc) (w : ℕ) (s : State) → Fits progra
 taken_grows program w s f = record {
   more = same_more (drawn s);
   fits = record {
+    root = f.root;
     handlers = f.handlers;
     normal = f.normal;
     low = f.low;

@@ -9,7 +9,7 @@ use Rattle.ak_frames.specs.declared.value.Value.TheVariants as value
 use Rattle.ak_frames.specs.declared.frame.Ret.{Ret}
 use Rattle.ak_frames.specs.declared.frame.Ret.TheVariants.{Drop, To, TryBody, ThrottleBody}
 use Rattle.ak_frames.specs.declared.frame.Frame.{Frame}
-use Rattle.ak_frames.specs.declared.frame.Frame.TheVariants.{Call, OnValue, TryDone, BodyDone, BodyFailed, Raise, AllPart, ChoicePart}
+use Rattle.ak_frames.specs.declared.frame.Frame.TheVariants.{Call, OnValue, TryDone, BodyDone, BodyFailed, Raise, AllPart, ChoicePart, AnswerOut}
 use Rattle.ak_frames.specs.declared.frame.Task.{Task}
 use Rattle.ak_script.specs.declared.script.Kind.{Kind}
 use Rattle.ak_script.specs.declared.script.Kind.TheVariants.{Num, Ivar, Def, Mon, Pipe, Thr, Event, Helper}
@@ -90,7 +90,7 @@ FrameFits program n (TryDone g) = g < n.groups
 FrameFits program n (BodyDone b) = Unit {0}
 FrameFits program n (BodyFailed b e) = Unit {0}
 FrameFits program n (Raise e) = Unit {0}
-FrameFits program n other = ⊥
+FrameFits program n (AnswerOut q) = Unit {0}
 
 -- a job or a handler: its monitor is there
 pub record HeldFits (program : List NumProc) (n : Drawn) (ctx : Ctx) (frame : Frame) : Type 0 where
@@ -228,11 +228,12 @@ pub record WorkFits (n : Drawn) (work : Outstanding) : Type 0 where
   pub monitor : work.ctx.mon < n.monitors
   pub result : work.to < n.ivars
 
--- all that a state holds, list by list; each group has its purpose, and each throttle its bodies
+-- all that a state holds, list by list: the root monitor is there, each group has its purpose, and each throttle its bodies
 pub record ListsFit (program : List NumProc) (n : Drawn) (of_registrations : List (Registration Frame))
     (of_normal of_low : List (Job Task)) (of_monitors : List (Monitor Handler)) (of_purposes : List Purpose) (of_parts : List ℕ)
     (of_clock : Clock) (of_throttles : List (Throttle Body)) (of_started : List (List Started))
     (of_pipes : List (part.Pipe Read)) (of_works : List Outstanding) : Type 0 where
+  pub root : 0 < n.monitors
   pub handlers : AllByRecursion (HandlerFits program n) of_registrations
   pub normal : AllByRecursion (JobFits program n) of_normal
   pub low : AllByRecursion (JobFits program n) of_low

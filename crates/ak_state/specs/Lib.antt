@@ -11,3 +11,4 @@ pub mod Streams
 pub mod Helpers
 pub mod Works
 pub mod Arrivals
+pub mod Requests

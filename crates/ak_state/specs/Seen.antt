@@ -33,10 +33,11 @@ no_lists askers =
       clock = clock_at_zero;
       works = no_works;
       helpers = [];
+      requests = [];
       left = askers;
     }
 
--- the machine's other lists; nothing is in those that are not built
+-- the machine's other lists
 abbrev pub other_lists : Lists → State
 other_lists lists =
     record (initial_state 0 lists.left) {
@@ -50,6 +51,7 @@ other_lists lists =
       works = lists.works.out;
       next_work = lists.works.next;
       helpers = lists.helpers;
+      requests = lists.requests;
     }
 
 -- the parts, with the numbers that they were given, beside the other lists

@@ -7,3 +7,4 @@ mod lists;
 mod local;
 mod outstanding;
 pub mod parts;
+mod requests;

@@ -5,6 +5,7 @@ ghost use Rattle.ak_state.specs.Seen.{no_lists};
 
 use crate::helpers::Helpers;
 use crate::outstanding::Works;
+use crate::requests::Requests;
 use ak_base::list::{Items, NoMemory};
 use ak_choice::groups::Groups;
 use ak_clock::clock::Clock;
@@ -14,8 +15,8 @@ use ak_streams::pipes::Pipes;
 use ak_streams::throttles::Throttles;
 use std::alloc::Global;
 
-/// What waits for errors, for decisions, for bodies, for numbers and for a time, with the numbers that it was given; the works and
-/// the helpers; and how many askers are left. Own.
+/// What waits for errors, for decisions, for bodies, for numbers and for a time, with the numbers that it was given; the works,
+/// the helpers and the requests; and how many askers are left. Own.
 #[derive(Debug, Drop)]
 pub struct Lists {
     pub monitors: Tree<Handler>,
@@ -26,6 +27,7 @@ pub struct Lists {
     pub clock: Clock,
     pub works: Works,
     pub helpers: Helpers,
+    pub requests: Requests,
     pub left: u32,
 }
 
@@ -43,6 +45,7 @@ impl Lists {
             clock: Clock::make(alloc),
             works: Works::make(alloc),
             helpers: Helpers::make(alloc),
+            requests: Requests::make(alloc),
             left: askers,
         })
     }
@@ -59,6 +62,7 @@ impl Lists {
         self.clock = Clock::make(alloc);
         self.works = Works::make(alloc);
         self.helpers = Helpers::make(alloc);
+        self.requests = Requests::make(alloc);
         self.left = askers;
     }
 }

@@ -9,6 +9,7 @@ mod errors;
 mod groups;
 mod monitors;
 mod pipes;
+mod requests;
 mod throttles;
 mod works;
 

@@ -22,6 +22,8 @@ mod pipes;
 #[cfg(test)]
 mod replays;
 #[cfg(test)]
+mod requests;
+#[cfg(test)]
 mod throttles;
 #[cfg(test)]
 mod turns;

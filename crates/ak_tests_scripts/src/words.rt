@@ -14,13 +14,23 @@ fn words_of(alloc: Global, line: &str) -> Result<Vec<Word>, NoMemory> {
     Ok(words)
 }
 
-/// The command to run with so many threads, jobs of a priority in a cycle, and jobs in all. No words give askers.
+/// The command to run with so many threads, jobs of a priority in a cycle, and jobs in all, and without askers.
 fn run(threads: u32, limit: u32, jobs: u32) -> Result<Command, u32> {
     Ok(Command::Run(Config {
         threads,
         limit,
         jobs,
         askers: 0,
+    }))
+}
+
+/// The command to run again with so many threads and askers.
+fn replay(threads: u32, askers: u32) -> Result<Command, u32> {
+    Ok(Command::Replay(Config {
+        threads,
+        limit: 500,
+        jobs: 100_000,
+        askers,
     }))
 }
 
@@ -34,6 +44,8 @@ fn words_give_commands(rt: HostRuntime) -> Result<(), NoMemory> {
         ("run --jobs 200000 --limit 100000", run(4, 100_000, 200_000)),
         ("run --limit 1 --jobs 1 --threads 2", run(2, 1, 1)),
         ("check", Ok(Command::Check)),
+        ("replay --askers 16 --threads 2", replay(2, 16)),
+        ("replay --askers 0", replay(4, 0)),
     ] {
         let words = words_of(rt.alloc(), line)?;
         assert_eq!(rt; read_command(&words), command, "{line}");
@@ -49,6 +61,8 @@ fn first_wrong_word_is_named(rt: HostRuntime) -> Result<(), NoMemory> {
         ("check --jobs", 1),
         ("run 5", 1),
         ("run --threads", 2),
+        ("run --askers 1", 1),
+        ("replay --askers 17", 2),
         ("run --threads 0", 2),
         ("run --threads 33", 2),
         ("run --threads -1", 2),

@@ -35,8 +35,7 @@ module _ (config : Config) (script : List ℕ) (trace : List Entry) (history : L
       record_bytes = history_text history;
       cut = cut.1;
       gives = record {
-        script = ran.script;
-        is_script = record { reads = reads; valid = ran.is_script.valid };
+        serving = record { script = ran.script; is_script = record { reads = reads; valid = ran.is_script.valid }; serves = ran.serves };
         history = history;
         recorded = recorded (cut.0 + 1);
         meets = meets;

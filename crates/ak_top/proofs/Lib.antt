@@ -3,6 +3,7 @@ mod Headlines
 mod Hands
 mod Loading
 mod Replaying
+mod Serving
 mod Reporting
 mod Sources
 mod Usages

@@ -35,61 +35,62 @@ use Rattle.ak_top.specs.declared.stop.Stop.{Stop}
 use Rattle.ak_top.specs.declared.stop.Stop.TheVariants as stop
 use Rattle.ak_top.specs.Headline.{IsScript, RunsTo, program_of}
 use Rattle.ak_reading.specs.Reading.{Had, Began, WasReadTo}
-use Rattle.ak_top.specs.Refusals.{ScriptFault}
-use Rattle.ak_top.specs.Replays.{source_limit, Outcome, Refuses, Spoils, Goes, IsSpoilt, DoMeet, GivesCut, GivesUncut, IsTooLong, FromCut, FromUncut, Gives, GivesFrom, GivesTold, RunsOver, ReplaysTo, IsReplay, HasCause, Tells, ReportsReplay, IsStop, AnswerTells, IsPlaced, status_departed}
+use Rattle.ak_exec.specs.Worlds.{ServesAskers}
+use Rattle.ak_top.specs.Refusals.{FaultWith}
+use Rattle.ak_top.specs.Replays.{source_limit, Outcome, Refuses, Spoils, Goes, IsSpoilt, DoMeet, GivesCut, GivesUncut, IsServing, IsTooLong, FromCut, FromUncut, Gives, GivesFrom, GivesTold, RunsOver, ReplaysTo, IsReplay, HasCause, Tells, ReportsReplay, IsStop, AnswerTells, IsPlaced, status_departed}
 use Rattle.ak_top.specs.Reports.{is_carried_out, Shows, EndsWell}
 use Rattle.ak_top.specs.Status.{IsStatusOf}
-use Rattle.ak_top.specs.Stops.{status_at, IsNoProgram, IsProgramOf, Refuses as StopRefuses, Accepts, IsTheRefusal, IsNoRefusal}
+use Rattle.ak_top.specs.Stops.{status_at, IsNoProgramWith, IsProgramOf, Refuses as StopRefuses, Accepts, IsTheRefusal, IsNoRefusal}
 use Rattle.ak_top.proofs.Reporting.{carried, shown, bare_report}
 
 -- ---- a script that is refused
--- what P says of an outcome is that the script has that fault, or that it is valid
-pub record SpeaksOf (bytes : List ℕ) (P : Outcome → Type 0) : Type 0 where
-  pub refuses : (line kind : ℕ) → P (Refuses line kind) → ScriptFault bytes line kind
-  pub spoils : (line : ℕ) → P (Spoils line) → (script : List Proc) × IsScript bytes script
-  pub goes : (m : Meeting) → P (Goes m) → (script : List Proc) × IsScript bytes script
+-- what P says of an outcome is that the script has that fault, or that it is valid and serves the askers
+pub record SpeaksOf (askers : ℕ) (bytes : List ℕ) (P : Outcome → Type 0) : Type 0 where
+  pub refuses : (line kind : ℕ) → P (Refuses line kind) → FaultWith askers bytes line kind
+  pub spoils : (line : ℕ) → P (Spoils line) → IsServing askers bytes
+  pub goes : (m : Meeting) → P (Goes m) → IsServing askers bytes
 
-pub cut_speaks : (config : Config) (bytes record_bytes : List ℕ) (first : ℕ) → SpeaksOf bytes (GivesCut config bytes record_bytes first)
+pub cut_speaks : (config : Config) (bytes record_bytes : List ℕ) (first : ℕ) → SpeaksOf config.askers bytes (GivesCut config bytes record_bytes first)
 cut_speaks config bytes record_bytes first = record {
   refuses = λ line kind h. h;
-  spoils = λ line h. (h.script, h.is_script);
-  goes = λ m h. (h.script, h.is_script);
+  spoils = λ line h. h.serving;
+  goes = λ m h. h.serving;
 }
 
-pub uncut_speaks : (bytes : List ℕ) (after : ℕ) → SpeaksOf bytes (GivesUncut bytes after)
-uncut_speaks bytes after = record { refuses = λ line kind h. h; spoils = λ line h. h.0; goes = λ m h. absurd h }
+pub uncut_speaks : (config : Config) (bytes : List ℕ) (after : ℕ) → SpeaksOf config.askers bytes (GivesUncut config bytes after)
+uncut_speaks config bytes after = record { refuses = λ line kind h. h; spoils = λ line h. h.0; goes = λ m h. absurd h }
 
-pub stop_caused : (bytes : List ℕ) (P : Outcome → Type 0) (s : Stop)
-    → ((line kind : ℕ) → ScriptFault bytes line kind → P (Refuses line kind)) → IsNoProgram bytes s
+pub stop_caused : (askers : ℕ) (bytes : List ℕ) (P : Outcome → Type 0) (s : Stop)
+    → ((line kind : ℕ) → FaultWith askers bytes line kind → P (Refuses line kind)) → IsNoProgramWith askers bytes s
     → HasCause P (status_at s)
-stop_caused bytes P stop.ReadFault made h = absurd h
-stop_caused bytes P (stop.Refused line kind) made h = made line kind h
-stop_caused bytes P stop.NoMemory made h = tt
+stop_caused askers bytes P stop.ReadFault made h = absurd h
+stop_caused askers bytes P (stop.Refused line kind) made h = made line kind h
+stop_caused askers bytes P stop.NoMemory made h = tt
 
-pub stop_stops : (bytes : List ℕ) (s : Stop) → IsNoProgram bytes s → IsStop (status_at s)
-stop_stops bytes stop.ReadFault h = absurd h
-stop_stops bytes (stop.Refused line kind) h = tt
-stop_stops bytes stop.NoMemory h = tt
+pub stop_stops : (askers : ℕ) (bytes : List ℕ) (s : Stop) → IsNoProgramWith askers bytes s → IsStop (status_at s)
+stop_stops askers bytes stop.ReadFault h = absurd h
+stop_stops askers bytes (stop.Refused line kind) h = tt
+stop_stops askers bytes stop.NoMemory h = tt
 
 refusal_is : (at number line kind : ℕ) → at ≡ line → number ≡ kind → Refuses line kind ≡ Refuses at number
 refusal_is at number line kind e d = ap (λ l. Refuses l kind) (sym e) ∙ ap (λ k. Refuses at k) (sym d)
 
-pub stop_tells : (bytes : List ℕ) (P : Outcome → Type 0) (s : Stop) → SpeaksOf bytes P → IsNoProgram bytes s
-    → ((line kind : ℕ) → ScriptFault bytes line kind → IsTheRefusal line kind s)
-    → ((script : List Proc) → IsScript bytes script → IsNoRefusal s) → (outcome : Outcome) → P outcome → Tells (status_at s) outcome
-stop_tells bytes P stop.ReadFault speaks h refuses accepts outcome p = tt
-stop_tells bytes P stop.NoMemory speaks h refuses accepts outcome p = tt
-stop_tells bytes P (stop.Refused at number) speaks h refuses accepts (Refuses line kind) p =
+pub stop_tells : (askers : ℕ) (bytes : List ℕ) (P : Outcome → Type 0) (s : Stop) → SpeaksOf askers bytes P → IsNoProgramWith askers bytes s
+    → ((line kind : ℕ) → FaultWith askers bytes line kind → IsTheRefusal line kind s)
+    → (IsServing askers bytes → IsNoRefusal s) → (outcome : Outcome) → P outcome → Tells (status_at s) outcome
+stop_tells askers bytes P stop.ReadFault speaks h refuses accepts outcome p = tt
+stop_tells askers bytes P stop.NoMemory speaks h refuses accepts outcome p = tt
+stop_tells askers bytes P (stop.Refused at number) speaks h refuses accepts (Refuses line kind) p =
     let is = refuses line kind (speaks.refuses line kind p) in refusal_is at number line kind is.0 is.1
-stop_tells bytes P (stop.Refused at number) speaks h refuses accepts (Spoils line) p =
-    let s = speaks.spoils line p in absurd (accepts s.0 s.1)
-stop_tells bytes P (stop.Refused at number) speaks h refuses accepts (Goes m) p =
-    let s = speaks.goes m p in absurd (accepts s.0 s.1)
+stop_tells askers bytes P (stop.Refused at number) speaks h refuses accepts (Spoils line) p =
+    absurd (accepts (speaks.spoils line p))
+stop_tells askers bytes P (stop.Refused at number) speaks h refuses accepts (Goes m) p =
+    absurd (accepts (speaks.goes m p))
 
 -- ---- a script that is run
 -- a line of the history is at fault
 pub fault_tells : (config : Config) (bytes record_bytes : List ℕ) (first line : ℕ)
-    → ((l k : ℕ) → ScriptFault bytes l k → ⊥)
+    → ((l k : ℕ) → FaultWith config.askers bytes l k → ⊥)
     → ((events : List Event) → IsRecord config.threads config.askers record_bytes first events → IsHistory (Err (refused.BadHistory line)) events)
     → ((number : ℕ) → IsFault config.threads config.askers record_bytes first number → IsLine (Err (refused.BadHistory line)) number)
     → (outcome : Outcome) → GivesCut config bytes record_bytes first outcome → outcome ≡ Spoils line
@@ -107,7 +108,7 @@ same_meeting config bytes program history other script m is is_script same meets
     subst (λ (h : List Event). Meets program config h m) (sym same) (subst (λ (p : NumProgram). Meets p config other m) programs meets)
 
 pub meeting_tells : (config : Config) (bytes record_bytes : List ℕ) (first : ℕ) (program : NumProgram) (history : List Event) (told : Meeting)
-    → IsProgramOf bytes program → ((l k : ℕ) → ScriptFault bytes l k → ⊥)
+    → IsProgramOf bytes program → ((l k : ℕ) → FaultWith config.askers bytes l k → ⊥)
     → ((events : List Event) → IsRecord config.threads config.askers record_bytes first events → IsHistory (Ok history) events)
     → ((number : ℕ) → IsFault config.threads config.askers record_bytes first number → IsLine (Ok history) number)
     → ((m : Meeting) → Meets program config history m → m ≡ told)
@@ -115,7 +116,7 @@ pub meeting_tells : (config : Config) (bytes record_bytes : List ℕ) (first : �
 meeting_tells config bytes record_bytes first program history told is none records fault exact (Refuses l k) p = absurd (none l k p)
 meeting_tells config bytes record_bytes first program history told is none records fault exact (Spoils l) p = absurd (fault l p.fault)
 meeting_tells config bytes record_bytes first program history told is none records fault exact (Goes m) p =
-    ap Goes (exact m (same_meeting config bytes program history p.history p.script m is p.is_script (records p.history p.recorded) p.meets))
+    ap Goes (exact m (same_meeting config bytes program history p.history p.serving.script m is p.serving.is_script (records p.history p.recorded) p.meets))
 
 -- the same of a departure, by its status
 pub departure_tells : (d : Departure) (outcome : Outcome) → outcome ≡ Goes (meeting_of d) → Tells (status_departed d) outcome
@@ -137,21 +138,30 @@ departs_placed program config record_bytes first history (departure.Stray place 
     omega (arith, slice_get_within history place kept meets.1.there, is.reads.few)
 departs_placed program config record_bytes first history (departure.Short asked) is meets = tt
 
-pub do_meet : (config : Config) (bytes record_bytes : List ℕ) (first : ℕ) (program : NumProgram) (history : List Event) (m : Meeting)
-    → IsProgramOf bytes program → IsRecord config.threads config.askers record_bytes first history
-    → Meets program config history m → DoMeet config bytes record_bytes first m
-do_meet config bytes record_bytes first program history m is recorded meets = record {
+-- the script of a program that serves the askers
+pub is_serving : (askers : ℕ) (bytes : List ℕ) (program : NumProgram) → IsProgramOf bytes program → ServesAskers program askers
+    → IsServing askers bytes
+is_serving askers bytes program is serves = record {
   script = is.script;
   is_script = is.is_script;
+  serves = subst (λ (p : NumProgram). ServesAskers p askers) is.program_is serves;
+}
+
+pub do_meet : (config : Config) (bytes record_bytes : List ℕ) (first : ℕ) (program : NumProgram) (history : List Event) (m : Meeting)
+    → IsProgramOf bytes program → ServesAskers program config.askers → IsRecord config.threads config.askers record_bytes first history
+    → Meets program config history m → DoMeet config bytes record_bytes first m
+do_meet config bytes record_bytes first program history m is serves recorded meets = record {
+  serving = is_serving config.askers bytes program is serves;
   history = history;
   recorded = recorded;
   meets = subst (λ (p : NumProgram). Meets p config history m) is.program_is meets;
 }
 
 pub runs_over : (config : Config) (bytes record_bytes : List ℕ) (first : ℕ) (program : NumProgram) (trace : List Entry) (history : List Event)
-    → IsProgramOf bytes program → IsRecord config.threads config.askers record_bytes first history → IsRerun program config history trace
+    → IsProgramOf bytes program → ServesAskers program config.askers → IsRecord config.threads config.askers record_bytes first history
+    → IsRerun program config history trace
     → RunsOver config bytes record_bytes first trace history
-runs_over config bytes record_bytes first program trace history is recorded again =
+runs_over config bytes record_bytes first program trace history is serves recorded again =
     let same : IsRerun (program_of is.script) config history trace =
     subst (λ (p : NumProgram). IsRerun p config history trace) is.program_is again in
     record {
@@ -159,6 +169,7 @@ runs_over config bytes record_bytes first program trace history is recorded agai
       run = record {
         script = is.script;
         is_script = is.is_script;
+        serves = subst (λ (p : NumProgram). ServesAskers p config.askers) is.program_is serves;
         legal = recorded.legal;
         ended = same.ended;
         trace_is = same.trace_is;
@@ -192,7 +203,7 @@ from_cut config source bytes record_bytes number short cut outcome p =
     inr (short, inl (record { bytes = bytes; number = number; record_bytes = record_bytes; cut = cut; gives = p }))
 
 pub from_uncut : (config : Config) (source : List ℕ) (after : ℕ) → length source ≤ source_limit → IsUncut source after → (outcome : Outcome)
-    → GivesUncut source after outcome → Gives config source outcome
+    → GivesUncut config source after outcome → Gives config source outcome
 from_uncut config source after short uncut outcome p = inr (short, inr (record { after = after; uncut = uncut; gives = p }))
 
 -- a source with a line `%pool` gives what its parts give
@@ -210,18 +221,18 @@ to_cut config source bytes record_bytes number short one none outcome (inr (s, i
 -- and one without gives what its script alone gives
 pub to_uncut : (config : Config) (source : List ℕ) (after : ℕ) → length source ≤ source_limit
     → ((script history : List ℕ) (n : ℕ) → IsCut source script n history → ⊥) → ((n : ℕ) → IsUncut source n → after ≡ n)
-    → (outcome : Outcome) → Gives config source outcome → GivesUncut source after outcome
+    → (outcome : Outcome) → Gives config source outcome → GivesUncut config source after outcome
 to_uncut config source after short none one outcome (inl h) = absurd (omega (arith, short, h.long))
 to_uncut config source after short none one outcome (inr (s, inl h)) = absurd (none h.bytes h.record_bytes h.number h.cut)
 to_uncut config source after short none one outcome (inr (s, inr h)) =
-    subst (λ (n : ℕ). GivesUncut source n outcome) (sym (one h.after h.uncut)) h.gives
+    subst (λ (n : ℕ). GivesUncut config source n outcome) (sym (one h.after h.uncut)) h.gives
 
 -- the line after the last is told
-pub after_tells : (bytes : List ℕ) (after : ℕ) → ((l k : ℕ) → ScriptFault bytes l k → ⊥)
-    → (outcome : Outcome) → GivesUncut bytes after outcome → outcome ≡ Spoils after
-after_tells bytes after none (Refuses l k) p = absurd (none l k p)
-after_tells bytes after none (Spoils l) p = ap Spoils p.1
-after_tells bytes after none (Goes m) p = absurd p
+pub after_tells : (config : Config) (bytes : List ℕ) (after : ℕ) → ((l k : ℕ) → FaultWith config.askers bytes l k → ⊥)
+    → (outcome : Outcome) → GivesUncut config bytes after outcome → outcome ≡ Spoils after
+after_tells config bytes after none (Refuses l k) p = absurd (none l k p)
+after_tells config bytes after none (Spoils l) p = ap Spoils p.1
+after_tells config bytes after none (Goes m) p = absurd p
 
 -- ---- what was read
 -- what a source tells is what was read

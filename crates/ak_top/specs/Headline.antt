@@ -14,6 +14,7 @@ use Rattle.ak_machine.specs.State.{State}
 use Rattle.ak_machine.specs.Run.{Run, HasEnded, run_of, machine_after}
 use Rattle.ak_history_laws.specs.Once.{StartOnce}
 use Rattle.ak_laws.specs.Laws.{ObeysLaws}
+use Rattle.ak_exec.specs.Worlds.{ServesAskers}
 use Rattle.ak_laws.specs.Executed.{Executed, executed}
 use Rattle.ak_laws.specs.Reads.{ReadsGetWhatWasWritten}
 use Rattle.ak_reading.specs.Reading.{Had}
@@ -42,6 +43,8 @@ state_on script config history = (machine_after (program_of script) config (repl
 pub record RunsTo (config : Config) (bytes : List ℕ) (trace : List Entry) (history : List Event) : Type 0 where
   pub script : List Proc
   pub is_script : IsScript bytes script
+  -- a procedure of the script serves those who ask from outside, who are 16 at the most
+  pub serves : ServesAskers (program_of script) config.askers
   -- the history is legal for the pool's threads and those who ask from outside
   pub legal : Legal config.threads config.askers history
   -- the machine has ended, the trace is the machine's, and the history holds exactly the calls that the machine makes

@@ -17,7 +17,8 @@ use Rattle.ak_top.specs.declared.status.Status.TheVariants as status
 use Rattle.ak_top.specs.declared.status.Report.{Report}
 use Rattle.ak_top.specs.Headline.{IsScript, RunsTo, program_of}
 use Rattle.ak_reading.specs.Reading.{Had, WasReadTo}
-use Rattle.ak_top.specs.Refusals.{ScriptFault}
+use Rattle.ak_exec.specs.Worlds.{ServesAskers}
+use Rattle.ak_top.specs.Refusals.{FaultWith}
 use Rattle.ak_top.specs.Reports.{is_carried_out, Shows}
 
 -- the most bytes of a source
@@ -30,31 +31,35 @@ pub data Outcome : Type 0 where
   Spoils : (line : ℕ) → Outcome
   Goes : (m : Meeting) → Outcome
 
--- a valid script, and the first line at fault of a history
-pub record IsSpoilt (config : Config) (bytes record_bytes : List ℕ) (first line : ℕ) : Type 0 where
+-- a valid script, which serves so many askers
+pub record IsServing (askers : ℕ) (bytes : List ℕ) : Type 0 where
   pub script : List Proc
   pub is_script : IsScript bytes script
+  pub serves : ServesAskers (program_of script) askers
+
+-- such a script, and the first line at fault of a history
+pub record IsSpoilt (config : Config) (bytes record_bytes : List ℕ) (first line : ℕ) : Type 0 where
+  pub serving : IsServing config.askers bytes
   pub fault : IsFault config.threads config.askers record_bytes first line
 
--- a valid script and a legal history meet so
+-- such a script and a legal history meet so
 pub record DoMeet (config : Config) (bytes record_bytes : List ℕ) (first : ℕ) (m : Meeting) : Type 0 where
-  pub script : List Proc
-  pub is_script : IsScript bytes script
+  pub serving : IsServing config.askers bytes
   pub history : List Event
   pub recorded : IsRecord config.threads config.askers record_bytes first history
-  pub meets : Meets (program_of script) config history m
+  pub meets : Meets (program_of serving.script) config history m
 
 -- what comes of the bytes of a script and those of a history, the first of whose lines has the number `first`
 abbrev pub GivesCut : Config → List ℕ → List ℕ → ℕ → Outcome → Type 0
-GivesCut config bytes record_bytes first (Refuses line kind) = ScriptFault bytes line kind
+GivesCut config bytes record_bytes first (Refuses line kind) = FaultWith config.askers bytes line kind
 GivesCut config bytes record_bytes first (Spoils line) = IsSpoilt config bytes record_bytes first line
 GivesCut config bytes record_bytes first (Goes m) = DoMeet config bytes record_bytes first m
 
 -- what comes of the bytes of a script alone, where `after` is the number of the line after their last
-abbrev pub GivesUncut : List ℕ → ℕ → Outcome → Type 0
-GivesUncut bytes after (Refuses line kind) = ScriptFault bytes line kind
-GivesUncut bytes after (Spoils line) = ((script : List Proc) × IsScript bytes script) × (line ≡ after)
-GivesUncut bytes after (Goes m) = ⊥
+abbrev pub GivesUncut : Config → List ℕ → ℕ → Outcome → Type 0
+GivesUncut config bytes after (Refuses line kind) = FaultWith config.askers bytes line kind
+GivesUncut config bytes after (Spoils line) = IsServing config.askers bytes × (line ≡ after)
+GivesUncut config bytes after (Goes m) = ⊥
 
 -- more bytes than a source may have are refused as a whole, by kind 2
 pub record IsTooLong (source : List ℕ) (outcome : Outcome) : Type 0 where
@@ -70,16 +75,16 @@ pub record FromCut (config : Config) (source : List ℕ) (outcome : Outcome) : T
   pub gives : GivesCut config bytes record_bytes (number + 1) outcome
 
 -- what comes of one that has none
-pub record FromUncut (source : List ℕ) (outcome : Outcome) : Type 0 where
+pub record FromUncut (config : Config) (source : List ℕ) (outcome : Outcome) : Type 0 where
   pub after : ℕ
   pub uncut : IsUncut source after
-  pub gives : GivesUncut source after outcome
+  pub gives : GivesUncut config source after outcome
 
 -- what comes of a source
 abbrev pub Gives : Config → List ℕ → Outcome → Type 0
 Gives config source outcome =
     IsTooLong source outcome
-    ⊎ ((length source ≤ source_limit) × (FromCut config source outcome ⊎ FromUncut source outcome))
+    ⊎ ((length source ≤ source_limit) × (FromCut config source outcome ⊎ FromUncut config source outcome))
 
 -- the same of the bytes that were read of a source, and of a source that tells its bytes
 pub record GivesFrom (config : Config) (told : Option (List ℕ)) (outcome : Outcome) : Type 0 where

@@ -21,11 +21,11 @@ number_of (Stray place asked kept) = 9
 number_of (Short asked) = 9
 number_of Stuck = 10
 
--- the names of the kinds of faults of a script, from kind 1 on
+-- the names of the kinds of faults of a script, from kind 1 on; there is no kind 10
 abbrev pub kind_names : List (List ℕ)
 kind_names =
     codes "BadLine" ∷ codes "TooLong" ∷ codes "TooMany" ∷ codes "BadNumber" ∷ codes "NoMain" ∷ codes "TwiceNamed"
-    ∷ codes "UnknownName" ∷ codes "WrongKind" ∷ codes "WrongCount" ∷ []
+    ∷ codes "UnknownName" ∷ codes "WrongKind" ∷ codes "WrongCount" ∷ [] ∷ codes "NoAsk" ∷ []
 
 abbrev pub name_of_kind : ℕ → List ℕ
 name_of_kind kind = slice_index_or ([] ∷ kind_names) kind []

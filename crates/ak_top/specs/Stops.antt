@@ -16,7 +16,7 @@ use Rattle.ak_top.specs.declared.status.Status.TheVariants as status
 use Rattle.ak_top.specs.declared.stop.Stop.{Stop}
 use Rattle.ak_top.specs.declared.stop.Stop.TheVariants.{ReadFault, Refused, NoMemory}
 use Rattle.ak_top.specs.Headline.{IsScript, program_of}
-use Rattle.ak_top.specs.Refusals.{ScriptFault, IsRefused}
+use Rattle.ak_top.specs.Refusals.{ScriptFault, FaultWith, IsRefused}
 
 abbrev pub status_at : Stop → Status
 status_at ReadFault = status.ReadFault
@@ -47,6 +47,12 @@ abbrev pub IsNoProgram : List ℕ → Stop → Type 0
 IsNoProgram bytes ReadFault = ⊥
 IsNoProgram bytes (Refused line kind) = ScriptFault bytes line kind
 IsNoProgram bytes NoMemory = Unit {0}
+
+-- why they are no program that serves so many askers
+abbrev pub IsNoProgramWith : ℕ → List ℕ → Stop → Type 0
+IsNoProgramWith askers bytes ReadFault = ⊥
+IsNoProgramWith askers bytes (Refused line kind) = FaultWith askers bytes line kind
+IsNoProgramWith askers bytes NoMemory = Unit {0}
 
 -- why a source stops a command: its count of faults rose, its script is refused, or there was no memory
 abbrev pub IsStop : Option (List ℕ) → ℕ → ℕ → Stop → Type 0

@@ -1,17 +1,20 @@
 //! The command that runs a script again over a history.
 
-ghost use Rattle.std.specs.Prelude.{◌≡◌, ◌≢◌, ◌<◌, ◌≤◌, ◌+◌, ◌↔◌, ℕ, [], length, false, IfOk, IfErr, Some, codes, slice_get};
+ghost use Rattle.std.specs.Prelude.{◌≡◌, ◌≢◌, ◌<◌, ◌≤◌, ◌+◌, ◌↔◌, ℕ, [], length, true, false, IfOk, IfErr, Some, None, codes, slice_get};
 ghost use Rattle.ak_base.specs.Streams.{Rose};
 ghost use Rattle.ak_cycle.specs.Turns.{IsFinished};
 ghost use Rattle.ak_labor.specs.declared.config.Config.{Config as Settings};
 ghost use Rattle.ak_machine.specs.Status.{status_of};
+ghost use Rattle.ak_exec.specs.Worlds.{ServesAskers};
 ghost use Rattle.ak_meets.specs.Meets.{Yes};
 ghost use Rattle.ak_record.specs.Cuts.{IsUncut};
 ghost use Rattle.ak_words.specs.declared.command.Command.TheVariants.{Replay};
 ghost use Rattle.ak_words.specs.Words.{Means, IsCommand, IsUsageFault};
 ghost use Rattle.ak_top.specs.Output.{output};
-ghost use Rattle.ak_top.specs.Replays.{Outcome, Goes, Gives, GivesCut, GivesUncut, GivesFrom, GivesTold, RunsOver, ReplaysTo, IsReplay, HasCause, ReportsReplay, IsStop, AnswerTells, IsPlaced, status_departed};
+ghost use Rattle.ak_top.specs.Replays.{Outcome, Goes, Gives, GivesCut, GivesUncut, IsServing, GivesFrom, GivesTold, RunsOver, ReplaysTo, IsReplay, HasCause, ReportsReplay, IsStop, AnswerTells, IsPlaced, status_departed};
+ghost use Rattle.ak_top.specs.Refusals.{FaultWith};
 ghost use Rattle.ak_top.specs.Reports.{is_carried_out, Took, EndsWell};
+ghost use Rattle.ak_top.specs.Stops.{IsProgramOf, IsNoProgramWith, Refuses, Accepts};
 
 use crate::check::without_run;
 use crate::running::{Ran, load};
@@ -22,6 +25,7 @@ use ak_base::list::Word;
 use ak_base::sink::Sink;
 use ak_base::source::Source;
 use ak_labor::config::Config;
+use ak_program::program::Program;
 use ak_reading::reading::{RECORD_LIMIT, Text, read_source};
 use ak_record::cut::cut_at_pool;
 use ak_record::record::{RecordRefused, read_record};
@@ -32,6 +36,9 @@ use std::alloc::Global;
 
 /// The kind of a source with more bytes than it may have.
 const TOO_LONG: u8 = 2;
+
+/// The kind of a script without the procedure that its askers want.
+const NO_ASK: u8 = 11;
 
 /// Carries out the command that the words give, the first of which is `replay`, as `top` does: it reads a script, the line
 /// `%pool` and a history from the source, runs the script over that history, and writes the text of its trace and of the
@@ -86,7 +93,7 @@ pub(crate) fn replay_command<S: Source, K: Sink>(
     sink: &mut K,
 ) -> Report
     requires limit { 1 ≤ config.limit }
-    requires askers { config.askers ≡ 0 }
+    requires askers { config.askers ≤ 16 }
     ensures reports { ReportsReplay config (S.left source.old) result }
     ensures took { Took result.status (K.taken sink.old) (K.taken sink.new)
         (output result.trace result.history) }
@@ -106,7 +113,7 @@ pub(crate) fn replay_command<S: Source, K: Sink>(
 // Reads a source, and runs its script over its history.
 fn replay_source<S: Source>(alloc: Global, config: Config, source: &mut S) -> Result<Ran, Status>
     requires limit { 1 ≤ config.limit }
-    requires askers { config.askers ≡ 0 }
+    requires askers { config.askers ≤ 16 }
     ensures ran { IfOk result (λ ran.
         IsReplay config (S.left source.old) ran.trace ran.history) }
     ensures finished { IfOk result (λ ran. IsFinished (status_of ran.trace)) }
@@ -135,7 +142,7 @@ fn replay_source<S: Source>(alloc: Global, config: Config, source: &mut S) -> Re
 fn replay_bytes(alloc: Global, config: Config, source: &[u8]) -> Result<Ran, Status>
     requires short { length source.now ≤ 67108864 }
     requires limit { 1 ≤ config.limit }
-    requires askers { config.askers ≡ 0 }
+    requires askers { config.askers ≤ 16 }
     ensures ran { IfOk result (λ ran. ReplaysTo config source.now ran.trace ran.history) }
     ensures finished { IfOk result (λ ran. IsFinished (status_of ran.trace)) }
     ensures caused { IfErr result (HasCause (Gives config source.now)) }
@@ -145,7 +152,7 @@ fn replay_bytes(alloc: Global, config: Config, source: &[u8]) -> Result<Ran, Sta
 {
     match cut_at_pool(source) {
         Ok(cut) => replay_cut(alloc, config, cut.script, cut.history, cut.number + 1),
-        Err(after) => Err(without_record(alloc, source, after)),
+        Err(after) => Err(without_record(alloc, config, source, after)),
     }
 }
 
@@ -159,7 +166,7 @@ fn replay_cut(
 ) -> Result<Ran, Status>
     requires few { first + length record_bytes.now < 4294967295 }
     requires limit { 1 ≤ config.limit }
-    requires askers { config.askers ≡ 0 }
+    requires askers { config.askers ≤ 16 }
     ensures ran { IfOk result (λ ran.
         RunsOver config script.now record_bytes.now first ran.trace ran.history) }
     ensures finished { IfOk result (λ ran. IsFinished (status_of ran.trace)) }
@@ -169,7 +176,7 @@ fn replay_cut(
         → GivesCut config script.now record_bytes.now first outcome
         → AnswerTells result outcome }
 {
-    let program = match load(alloc, script) {
+    let program = match load_serving(alloc, config.askers, script) {
         Ok(program) => program,
         Err(stop) => return Err(stop.status()),
     };
@@ -194,18 +201,56 @@ fn replay_cut(
 }
 
 // Why a source without a line `%pool` is not replayed.
-fn without_record(alloc: Global, source: &[u8], after: u32) -> Status
-    ensures caused { HasCause (GivesUncut source.now after) result }
+fn without_record(alloc: Global, config: Config, source: &[u8], after: u32) -> Status
+    requires askers { config.askers ≤ 16 }
+    ensures caused { HasCause (GivesUncut config source.now after) result }
     ensures stops { IsStop result }
-    ensures tells { (outcome : Outcome) → GivesUncut source.now after outcome
+    ensures tells { (outcome : Outcome) → GivesUncut config source.now after outcome
         → AnswerTells (Err result) outcome }
 {
-    match load(alloc, source) {
+    match load_serving(alloc, config.askers, source) {
         Ok(program) => {
             drop(program);
             Status::BadHistory { line: after }
         }
         Err(stop) => stop.status(),
+    }
+}
+
+// The program of the script in these bytes, which serves so many askers.
+fn load_serving(alloc: Global, askers: u32, bytes: &[u8]) -> Result<Program, Stop>
+    requires few { askers ≤ 16 }
+    ensures program { IfOk result (IsProgramOf bytes.now) }
+    ensures serves { IfOk result (λ program. ServesAskers program askers) }
+    ensures stop { IfErr result (IsNoProgramWith askers bytes.now) }
+    ensures refuses { (line kind : ℕ) → FaultWith askers bytes.now line kind
+        → Refuses line kind result }
+    ensures accepts { IsServing askers bytes.now → Accepts result }
+{
+    match load(alloc, bytes) {
+        Ok(program) => {
+            if lacks_ask(&program, askers) {
+                drop(program);
+                return Err(Stop::Refused {
+                    line: 0,
+                    kind: NO_ASK,
+                });
+            }
+            Ok(program)
+        }
+        Err(stop) => Err(stop),
+    }
+}
+
+// Whether there are askers and the program has no procedure that serves them.
+fn lacks_ask(program: &Program, askers: u32) -> bool
+    requires few { askers ≤ 16 }
+    ensures lacks { result ≡ true → (1 ≤ askers) × (program.now.ask ≡ None) }
+    ensures serves { result ≡ false → ServesAskers program.now askers }
+{
+    match program.ask() {
+        Some(_) => false,
+        None => askers > 0,
     }
 }
 

@@ -116,6 +116,7 @@ fn kind_name(kind: u8) -> &'static str
         7 => "UnknownName",
         8 => "WrongKind",
         9 => "WrongCount",
+        11 => "NoAsk",
         _ => "",
     }
 }

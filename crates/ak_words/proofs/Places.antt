@@ -7,9 +7,9 @@ use Rattle.ak_words.specs.declared.command.Command.TheVariants.{Run, Replay, Che
 use Rattle.ak_words.specs.declared.command.Order.{Order}
 use Rattle.ak_words.specs.declared.command.Order.TheVariants as order
 use Rattle.ak_words.specs.declared.settings.Setting.{Setting}
-use Rattle.ak_words.specs.declared.settings.Setting.TheVariants.{Threads, Limit, Jobs}
+use Rattle.ak_words.specs.declared.settings.Setting.TheVariants.{Threads, Limit, Jobs, Askers}
 use Rattle.ak_words.specs.declared.settings.Given.{Given}
-use Rattle.ak_words.specs.Words.{word_of, name_of, given_at, with_setting, none_given, config_of, IsValue, IsSetting, Continues, GivesSettings, Means, IsCommand, BeginsCommand, IsUsageFault, BeginsSettings, IsSettingsFault}
+use Rattle.ak_words.specs.Words.{word_of, name_of, given_at, with_setting, settled_by, config_of, IsValue, IsSetting, Continues, GivesSettings, Means, IsCommand, BeginsCommand, IsUsageFault, BeginsSettings, IsSettingsFault}
 
 -- ---- lists
 take_all : {A : Type 0} (xs : List A) (n : ℕ) → n ≡ length xs → take n xs ≡ xs
@@ -41,19 +41,27 @@ list_two (v ∷ w ∷ xs) x y h e d =
 -- ---- settings
 one_name : (s t : Setting) → name_of s ≡ name_of t → s ≡ t
 one_name Threads Threads e = refl
-one_name Limit Limit e = refl
-one_name Jobs Jobs e = refl
 one_name Threads Limit e = cc
 one_name Threads Jobs e = cc
+one_name Threads Askers e = cc
 one_name Limit Threads e = cc
+one_name Limit Limit e = refl
 one_name Limit Jobs e = cc
+one_name Limit Askers e = cc
 one_name Jobs Threads e = cc
 one_name Jobs Limit e = cc
+one_name Jobs Jobs e = refl
+one_name Jobs Askers e = cc
+one_name Askers Threads e = cc
+one_name Askers Limit e = cc
+one_name Askers Jobs e = cc
+one_name Askers Askers e = refl
 
 one_is_value : (s : Setting) → IsValue s (codes "1") 1
 one_is_value Threads = ((omega arith, refl), refl, omega arith, omega arith)
 one_is_value Limit = ((omega arith, refl), refl, omega arith, omega arith)
 one_is_value Jobs = ((omega arith, refl), refl, omega arith, omega arith)
+one_is_value Askers = ((omega arith, refl), refl, omega arith, omega arith)
 
 bad_first : (given : Given) (name : List ℕ) (more : List (List ℕ)) (config : Config)
     → ((s : Setting) → name ≡ name_of s → given_at s given ≡ None → ⊥) → Continues given (name ∷ more) config → ⊥
@@ -120,42 +128,44 @@ fault_later given name value rest s n place is f = record {
 tail_is : (x y : List ℕ) (xs ys : List (List ℕ)) → x ∷ xs ≡ y ∷ ys → xs ≡ ys
 tail_is x y xs ys e = ap (λ zs. drop 1 zs) e
 
--- words that begin with that word give settings
-abbrev OnlySettings : List ℕ → Type 0
-OnlySettings first = (rest : List (List ℕ)) (command : Command) → Means (first ∷ rest) command → (config : Config) × Continues none_given rest config
+-- words that begin with the word of this order give settings
+abbrev OnlySettings : Order → Type 0
+OnlySettings o =
+    (rest : List (List ℕ)) (command : Command) → Means (word_of o ∷ rest) command → (config : Config) × Continues (settled_by o) rest config
 
-run_means : OnlySettings (codes "run")
-run_means rest (Run config) h = (config, subst (λ ws. Continues none_given ws config) (sym (tail_is _ _ rest h.0 h.1)) h.2)
+run_means : OnlySettings order.Run
+run_means rest (Run config) h = (config, subst (λ ws. Continues (settled_by order.Run) ws config) (sym (tail_is _ _ rest h.0 h.1)) h.2)
 run_means rest (Replay config) h = absurd (cc (h.1))
 run_means rest Check h = absurd (cc)
 
-replay_means : OnlySettings (codes "replay")
+replay_means : OnlySettings order.Replay
 replay_means rest (Run config) h = absurd (cc (h.1))
-replay_means rest (Replay config) h = (config, subst (λ ws. Continues none_given ws config) (sym (tail_is _ _ rest h.0 h.1)) h.2)
+replay_means rest (Replay config) h = (config, subst (λ ws. Continues (settled_by order.Replay) ws config) (sym (tail_is _ _ rest h.0 h.1)) h.2)
 replay_means rest Check h = absurd (cc)
 
 take_one : (place : ℕ) (x : List ℕ) (xs : List (List ℕ)) → take (place + 1) (x ∷ xs) ≡ x ∷ take place xs
 take_one place x xs = let e : place + 1 ≡ suc place = omega arith in ap (λ n. take n (x ∷ xs)) e
 
-fault_in_settings : (first : List ℕ) → OnlySettings first
-    → ((words : List (List ℕ)) (config : Config) → GivesSettings first words config → IsCommand words)
-    → (rest : List (List ℕ)) (place : ℕ) → IsSettingsFault none_given rest place → IsUsageFault (first ∷ rest) (place + 1)
-fault_in_settings first only make rest place f = record {
+fault_in_settings : (o : Order) → OnlySettings o
+    → ((words : List (List ℕ)) (config : Config) → GivesSettings o words config → IsCommand words)
+    → (rest : List (List ℕ)) (place : ℕ) → IsSettingsFault (settled_by o) rest place → IsUsageFault (word_of o ∷ rest) (place + 1)
+fault_in_settings o only make rest place f = record {
   no_command = λ c. let m = only rest c.0 c.1 in f.no_settings m.0 m.1;
   within = omega (arith, f.within);
-  before = subst BeginsCommand (sym (take_one place first rest))
-      (f.before.0, make (first ∷ (take place rest ++ f.before.0)) f.before.1 (take place rest ++ f.before.0, refl, f.before.2));
+  before = subst BeginsCommand (sym (take_one place (word_of o) rest))
+      (f.before.0, make (word_of o ∷ (take place rest ++ f.before.0)) f.before.1 (take place rest ++ f.before.0, refl, f.before.2));
   wrong = λ lt b.
-      let c : BeginsCommand (first ∷ take (place + 1) rest) = subst BeginsCommand (take_one (place + 1) first rest) b in
+      let c : BeginsCommand (word_of o ∷ take (place + 1) rest) = subst BeginsCommand (take_one (place + 1) (word_of o) rest) b in
       let m = only (take (place + 1) rest ++ c.0) c.1.0 c.1.1 in
       f.wrong (omega (arith, lt)) (c.0, m.0, m.1);
 }
 
-pub run_fault : (rest : List (List ℕ)) (place : ℕ) → IsSettingsFault none_given rest place → IsUsageFault (codes "run" ∷ rest) (place + 1)
-run_fault = fault_in_settings (codes "run") run_means (λ words config h. (Run config, h))
+pub run_fault : (rest : List (List ℕ)) (place : ℕ) → IsSettingsFault (settled_by order.Run) rest place → IsUsageFault (codes "run" ∷ rest) (place + 1)
+run_fault = fault_in_settings order.Run run_means (λ words config h. (Run config, h))
 
-pub replay_fault : (rest : List (List ℕ)) (place : ℕ) → IsSettingsFault none_given rest place → IsUsageFault (codes "replay" ∷ rest) (place + 1)
-replay_fault = fault_in_settings (codes "replay") replay_means (λ words config h. (Replay config, h))
+pub replay_fault : (rest : List (List ℕ)) (place : ℕ) → IsSettingsFault (settled_by order.Replay) rest place
+    → IsUsageFault (codes "replay" ∷ rest) (place + 1)
+replay_fault = fault_in_settings order.Replay replay_means (λ words config h. (Replay config, h))
 
 check_alone : (x : List ℕ) (more : List (List ℕ)) (command : Command) → Means (codes "check" ∷ x ∷ more) command → ⊥
 check_alone x more (Run config) h = absurd (cc (h.1))

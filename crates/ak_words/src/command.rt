@@ -1,7 +1,7 @@
 //! The command that words give.
 
-ghost use Rattle.std.specs.Prelude.{◌≡◌, ◌+◌, ◌∷◌, ℕ, MatchOption, IfOk, IfErr, codes};
-ghost use Rattle.ak_words.specs.Words.{word_of, none_given, Continues, Means, IsUsageFault, IsSettingsFault};
+ghost use Rattle.std.specs.Prelude.{◌≡◌, ◌≤◌, ◌+◌, ◌∷◌, ℕ, MatchOption, IfOk, IfErr, codes};
+ghost use Rattle.ak_words.specs.Words.{word_of, frees, Continues, Means, IsUsageFault, IsSettingsFault};
 
 use crate::settings::{Given, settings};
 use ak_base::list::Word;
@@ -41,7 +41,8 @@ impl Order {
     }
 }
 
-/// The command that words give: `run` or `replay` with settings, each at most once and in any order, or `check`. Own.
+/// The command that words give: `run` or `replay` with settings, each at most once and in any order, or `check`. `replay` alone has
+/// the setting of the askers. Own.
 ///
 /// # Errors
 ///
@@ -66,11 +67,11 @@ fn given(order: Order, rest: &[Word]) -> Result<Command, u32>
     ensures usage { IfErr result (IsUsageFault (word_of order ∷ rest.now)) }
 {
     match order {
-        Order::Run => match behind(rest) {
+        Order::Run => match behind(Given::without_askers(), rest) {
             Ok(config) => Ok(Command::Run(config)),
             Err(place) => Err(place),
         },
-        Order::Replay => match behind(rest) {
+        Order::Replay => match behind(Given::none(), rest) {
             Ok(config) => Ok(Command::Replay(config)),
             Err(place) => Err(place),
         },
@@ -78,13 +79,14 @@ fn given(order: Order, rest: &[Word]) -> Result<Command, u32>
     }
 }
 
-/// The settings that words give behind a first word.
-fn behind(rest: &[Word]) -> Result<Config, u32>
-    ensures settings { IfOk result (Continues none_given rest.now) }
+/// The settings that words give behind a first word, which settles these.
+fn behind(settled: Given, rest: &[Word]) -> Result<Config, u32>
+    requires few { frees settled ≤ 4 }
+    ensures settings { IfOk result (Continues settled rest.now) }
     ensures fault { IfErr result (λ place. (within : ℕ) × (place ≡ within + 1)
-        × IsSettingsFault none_given rest.now within) }
+        × IsSettingsFault settled rest.now within) }
 {
-    match settings(Given::none(), rest) {
+    match settings(settled, rest) {
         Ok(config) => Ok(config),
         Err(place) => Err(place + 1),
     }

@@ -1,9 +1,9 @@
 //! The settings of a run, by their words.
 
-ghost use Rattle.std.specs.Prelude.{◌≡◌, ◌≤◌, ◌+◌, ◌*◌, ℕ, ◌↔◌, IsTrue, None, MatchOption, IfOk, IfErr};
+ghost use Rattle.std.specs.Prelude.{◌≡◌, ◌≤◌, ◌+◌, ◌*◌, ℕ, ◌↔◌, IsTrue, Some, None, MatchOption, IfOk, IfErr};
 ghost use Rattle.ak_labor.specs.declared.config.Config.{Config};
 ghost use Rattle.ak_text.specs.Numbers.{has_minus};
-ghost use Rattle.ak_words.specs.Words.{name_of, greatest, given_at, with_setting, none_given, config_of, IsValue, frees, Continues, IsSettingsFault};
+ghost use Rattle.ak_words.specs.Words.{name_of, least, greatest, given_at, with_setting, none_given, config_of, IsValue, frees, Continues, IsSettingsFault};
 
 use ak_base::list::Word;
 use ak_labor::config::Config;
@@ -18,6 +18,8 @@ pub enum Setting {
     Limit,
     /// How many jobs run in all at the most: 1 to 200,000, else 100,000.
     Jobs,
+    /// How many askers there are outside: 0 to 16, else 0.
+    Askers,
 }
 
 impl Setting {
@@ -30,7 +32,18 @@ impl Setting {
             b"--threads" => Some(Setting::Threads),
             b"--limit" => Some(Setting::Limit),
             b"--jobs" => Some(Setting::Jobs),
+            b"--askers" => Some(Setting::Askers),
             _ => None,
+        }
+    }
+
+    /// The least number that it may have.
+    fn least(self) -> u32
+        ensures { result ≡ least self }
+    {
+        match self {
+            Setting::Threads | Setting::Limit | Setting::Jobs => 1,
+            Setting::Askers => 0,
         }
     }
 
@@ -42,6 +55,7 @@ impl Setting {
             Setting::Threads => 32,
             Setting::Limit => 100_000,
             Setting::Jobs => 200_000,
+            Setting::Askers => 16,
         }
     }
 
@@ -55,7 +69,7 @@ impl Setting {
         }
         let number = read_u64(word.as_slice())?;
         let number = u32::try_from(number).ok()?;
-        if number < 1 || number > self.greatest() {
+        if number < self.least() || number > self.greatest() {
             return None;
         }
         Some(number)
@@ -74,6 +88,7 @@ pub struct Given {
     threads: Option<u32>,
     limit: Option<u32>,
     jobs: Option<u32>,
+    askers: Option<u32>,
 }
 
 impl Given {
@@ -85,6 +100,17 @@ impl Given {
             threads: None,
             limit: None,
             jobs: None,
+            askers: None,
+        }
+    }
+
+    /// None was given, but it is settled that there are no askers.
+    pub fn without_askers() -> Given
+        ensures { result ≡ record none_given { askers = Some 0 } }
+    {
+        Given {
+            askers: Some(0),
+            ..Given::none()
         }
     }
 
@@ -95,6 +121,7 @@ impl Given {
             Setting::Threads => self.threads.is_none(),
             Setting::Limit => self.limit.is_none(),
             Setting::Jobs => self.jobs.is_none(),
+            Setting::Askers => self.askers.is_none(),
         }
     }
 
@@ -114,6 +141,10 @@ impl Given {
                 jobs: Some(number),
                 ..self
             },
+            Setting::Askers => Given {
+                askers: Some(number),
+                ..self
+            },
         }
     }
 
@@ -124,7 +155,7 @@ impl Given {
             threads: or_default(self.threads, 4),
             limit: or_default(self.limit, 500),
             jobs: or_default(self.jobs, 100_000),
-            askers: 0,
+            askers: or_default(self.askers, 0),
         }
     }
 }

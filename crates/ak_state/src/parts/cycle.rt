@@ -4,7 +4,7 @@ ghost use Rattle.std.specs.Prelude.{◌≡◌, None, OnOk, OnErr, false, true, n
 ghost use Rattle.ak_cells.specs.Names.{name_in};
 ghost use Rattle.std.specs.Option.{option_map};
 ghost use Rattle.ak_rings.specs.Queues.{pick_of, has_pick, has_no_job};
-ghost use Rattle.ak_machine.specs.Cycle.{cycle_begun, has_more, is_quiet, with_left};
+ghost use Rattle.ak_machine.specs.Cycle.{cycle_begun, has_more, with_left};
 ghost use Rattle.ak_machine.specs.Mapped.{job_mapped};
 ghost use Rattle.ak_state.specs.Seen.{doing, without_pick};
 ghost use Rattle.ak_state.specs.Fits.{FitsSome};
@@ -48,14 +48,6 @@ impl Parts {
         ensures { self.new ≡ doing (with_left left) self.old }
     {
         self.lists.left = left;
-    }
-
-    /// Whether every asker that is left waits for an answer. No request has arrived, as requests are not built.
-    pub fn is_quiet(&self) -> bool
-        ensures quiet { result ≡ is_quiet self.now.plain }
-        ensures none_left { self.now.plain.left ≡ 0 → result ≡ true }
-    {
-        self.lists.left == 0
     }
 
     /// A cycle begins: the pending yields are filled, and then the alarms that are due. There is a job to pick then

@@ -12,5 +12,5 @@ loop-arrivals-smaller g c =
     in let waited : Bool = has_waited (g.P.Port.asked c.end_cycle.new.port) (g.P.Port.waits c.end_cycle.new.port)
     in rounds_fewer c.loop-arrivals.world c.fetch.new.world c.end_cycle.new.world asked waits waited (g.P.Port.turns c.loop-arrivals.port)
     (g.P.Port.turns c.fetch.new.port) (g.P.Port.turns c.end_cycle.new.port)
-    (c.in_ok-fetch.ensures.gained c.if-not-branch.false) c.fetch.ensures.turns c.end_cycle.ensures.turns none c.in_ok-end_cycle.ensures.works
+    (c.in_ok-fetch.ensures.gained c.if-not-branch.false) c.fetch.ensures.turns c.end_cycle.ensures.turns none c.in_ok-end_cycle.ensures.come
     (c.in_ok-end_cycle.ensures.left c.if-not-branch-2.false)

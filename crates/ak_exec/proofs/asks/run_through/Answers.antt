@@ -2,13 +2,13 @@ use Rattle.std.proofs.Common.{◌∙◌, refl, subst, arith, rules}
 use Rattle.ak_labor.specs.Calls.{IsFault}
 use Rattle.ak_machine.specs.Job.{Progress, run_job}
 use Rattle.ak_state.specs.Reads.{job_named}
-use Rattle.ak_state.specs.Drawn.{drawn}
 use Rattle.ak_holders.proofs.Carry.{ProgressIs, waits_returns, waits_comes}
 use Rattle.ak_ledger.specs.Outside.{IsInStep, IsAskable}
 use Rattle.ak_ledger.proofs.Lines.{ProgressHas}
+use Rattle.ak_ledger.proofs.Owing.{Owed, OwedAsking, job_owed}
 use Rattle.ak_exec.specs.Asks.{IsNoMemory}
 use Rattle.ak_exec.specs.Steps.{progress_is}
-use Rattle.ak_exec.proofs.Asking.{job_in_step, leads_same, leads_far, leads_on, faults_behind, stops_here, stops_after, quiet_same, quiet_on}
+use Rattle.ak_exec.proofs.Asking.{job_in_step, leads_same, leads_far, leads_on, faults_behind, stops_here, stops_after, quiet_same, quiet_on, over_owed}
 use Rattle.ak_exec.specs.declared.job.Progress.TheVariants as far
 use Rattle.ak_exec.proofs.asks.run_through.Goals as goal
 
@@ -36,10 +36,11 @@ loop-progress-init g c =
         held =
             subst (ProgressIs procs) c.in_ok-progress.ensures.runs
             (waits_comes procs c.main-main.ensures.sound.each job s c.requires.waits);
+        owed = subst (ProgressHas Owed OwedAsking) c.in_ok-progress.ensures.runs (job_owed procs job s c.requires.owed);
         opened = c.requires.open;
         in_step =
             subst (λ (p : Progress). ProgressHas (IsInStep askers asked replies) (IsAskable askers asked replies) p) c.in_ok-progress.ensures.runs
-            (job_in_step askers asked replies c.requires.open.1 procs (drawn s) job s c.requires.job c.requires.in_step);
+            (job_in_step askers asked replies c.requires.open.1 procs job s c.requires.owed c.requires.in_step);
       };
       leads =
           leads_same c.args.program.now asked asked replies replies (run_job procs job s) (progress_is c.run_job.new.parts c.in_ok-progress.progress)
@@ -50,6 +51,10 @@ loop-progress-init g c =
       turns = omega arith;
       waits = refl;
     }
+
+pub returns-in-Over-clause-owed : goal.returns-in-Over-clause-owed
+returns-in-Over-clause-owed g c =
+    over_owed c.loop-progress.parts c.loop-progress.progress c.in-Over.flow c.in-Over.is c.loop-progress.invariant.running.owed
 
 pub returns-in-Over-clause-runs : goal.returns-in-Over-clause-runs
 returns-in-Over-clause-runs g c =

@@ -11,6 +11,7 @@ use Rattle.ak_state.proofs.Groups.{with_parts, try_done_grows}
 use Rattle.ak_state.proofs.Choices.{part_ended_grows, part_call_fits, choice_ended_grows, choice_call_fits}
 use Rattle.ak_state.proofs.Ends.{body_ended_grows, body_failed_grows}
 use Rattle.ak_state.proofs.Errors.{send_grows}
+use Rattle.ak_exec.proofs.Answered.{answering_fits}
 use Rattle.ak_exec.proofs.frames.run_task.Goals as goal
 
 pub run_call-requires-in-OnValue-clause-call : goal.run_call-requires-in-OnValue-clause-call
@@ -99,3 +100,9 @@ returns-in_ok-raised-in-Raise-clause-fits c =
     let program = c.args.program.now.procs
     in subst (λ (a : After). Fits program a.state) c.in_ok-raised-in-Raise.ensures.sent
     (send_grows program c.args.ctx.mon _ c.args.parts.now.plain c.requires.fits).fits
+
+-- ---- an answer to a request
+pub returns-in_ok-answer_out-in-AnswerOut-clause-fits : goal.returns-in_ok-answer_out-in-AnswerOut-clause-fits
+returns-in_ok-answer_out-in-AnswerOut-clause-fits c =
+    answering_fits c.args.program.now.procs c.args.ctx c.in-AnswerOut.request _ c.args.parts.now c.answer_out.new.self _ c.requires.monitor c.requires.fits
+    c.in_ok-answer_out-in-AnswerOut.ensures c.nothing_left.ensures

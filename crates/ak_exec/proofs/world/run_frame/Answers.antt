@@ -21,6 +21,7 @@ invariant_of-world g c =
       fits = c.in-Ok.ensures.fits;
       picked = rw n tt;
       held = rw n c.in-Ok.ensures.held;
+      owed = rw n c.in-Ok.ensures.owed;
     }
 
 pub invariant_of-world-in-Err : goal.invariant_of-world-in-Err

@@ -6,15 +6,15 @@ use Rattle.ak_top.proofs.replay.replay_cut.Goals as goal
 
 pub returns-in-Err-clause-caused : goal.returns-in-Err-clause-caused
 returns-in-Err-clause-caused c =
-    rw c.status.ensures (stop_caused c.args.script.now (GivesCut c.args.config c.args.script.now c.args.record_bytes.now c.args.first)
+    rw c.status.ensures (stop_caused c.args.config.askers c.args.script.now (GivesCut c.args.config c.args.script.now c.args.record_bytes.now c.args.first)
     c.in-Err.stop (λ line kind f. f) c.in-Err.ensures.stop)
 
 pub returns-in-Err-clause-stops : goal.returns-in-Err-clause-stops
-returns-in-Err-clause-stops c = rw c.status.ensures (stop_stops c.args.script.now c.in-Err.stop c.in-Err.ensures.stop)
+returns-in-Err-clause-stops c = rw c.status.ensures (stop_stops c.args.config.askers c.args.script.now c.in-Err.stop c.in-Err.ensures.stop)
 
 pub returns-in-Err-clause-tells : goal.returns-in-Err-clause-tells
 returns-in-Err-clause-tells c =
-    rw c.status.ensures (stop_tells c.args.script.now (GivesCut c.args.config c.args.script.now c.args.record_bytes.now c.args.first)
+    rw c.status.ensures (stop_tells c.args.config.askers c.args.script.now (GivesCut c.args.config c.args.script.now c.args.record_bytes.now c.args.first)
     c.in-Err.stop (cut_speaks c.args.config c.args.script.now c.args.record_bytes.now c.args.first) c.in-Err.ensures.stop
     c.in-Err.ensures.refuses c.in-Err.ensures.accepts)
 

@@ -1,9 +1,9 @@
 use Rattle.std.proofs.Common.{ap, subst, rules}
-use Rattle.std.specs.Prelude.{codes}
 use Rattle.ak_labor.specs.declared.config.Config.{Config}
 use Rattle.ak_words.specs.declared.command.Command.{Command}
 use Rattle.ak_words.specs.declared.command.Command.TheVariants.{Replay}
-use Rattle.ak_words.proofs.Meanings.{one_command, has_limit, has_no_askers}
+use Rattle.ak_words.specs.declared.command.Order.TheVariants as order
+use Rattle.ak_words.proofs.Meanings.{one_command, has_limit, has_few_askers}
 use Rattle.ak_top.specs.Commands.{Reports}
 use Rattle.ak_top.specs.declared.status.Report.{Report}
 use Rattle.ak_top.proofs.Usages.{usage_told}
@@ -12,11 +12,11 @@ use Rattle.ak_top.proofs.replay.replay_words.Goals as goal
 
 pub replay_command-requires-clause-limit : goal.replay_command-requires-clause-limit
 replay_command-requires-clause-limit g c =
-    has_limit (codes "replay") c.args.words.now c.in-Ok-Replay.config (rw c.in-Ok-Replay.field-0-is at c.in-Ok-Replay.ensures.command)
+    has_limit order.Replay c.args.words.now c.in-Ok-Replay.config (rw c.in-Ok-Replay.field-0-is at c.in-Ok-Replay.ensures.command)
 
 pub replay_command-requires-clause-askers : goal.replay_command-requires-clause-askers
 replay_command-requires-clause-askers g c =
-    has_no_askers (codes "replay") c.args.words.now c.in-Ok-Replay.config (rw c.in-Ok-Replay.field-0-is at c.in-Ok-Replay.ensures.command)
+    has_few_askers c.args.words.now c.in-Ok-Replay.config (rw c.in-Ok-Replay.field-0-is at c.in-Ok-Replay.ensures.command)
 
 pub returns-in-Ok-Replay-clause-reports : goal.returns-in-Ok-Replay-clause-reports
 returns-in-Ok-Replay-clause-reports g c = λ config means.

@@ -1,9 +1,9 @@
-use Rattle.std.specs.Prelude.{codes}
 use Rattle.std.proofs.Common.{◌≡◌, ap, sym, subst, refl, arith, ◌∙◌}
 use Rattle.ak_meets.specs.Meets.{Yes}
 use Rattle.ak_words.specs.declared.command.Command.{Command}
 use Rattle.ak_words.specs.declared.command.Command.TheVariants.{Run, Replay, Check}
-use Rattle.ak_words.proofs.Meanings.{one_command, has_limit, has_threads, has_no_askers}
+use Rattle.ak_words.specs.declared.command.Order.TheVariants as order
+use Rattle.ak_words.proofs.Meanings.{one_command, has_limit, has_threads, has_no_askers, has_few_askers}
 use Rattle.ak_top.specs.declared.status.Report.{Report}
 use Rattle.ak_top.specs.Commands.{Reports, TellsWhole}
 use Rattle.ak_top.specs.Replays.{Goes, GivesTold}
@@ -14,19 +14,19 @@ use Rattle.ak_top.proofs.top.top.Goals as goal
 
 pub run_command-requires-clause-limit : goal.run_command-requires-clause-limit
 run_command-requires-clause-limit g c κs within =
-    has_limit (codes "run") c.args.words.now c.in-Ok-Run.config (rw c.in-Ok-Run.field-0-is at c.in-Ok-Run.ensures.command)
+    has_limit order.Run c.args.words.now c.in-Ok-Run.config (rw c.in-Ok-Run.field-0-is at c.in-Ok-Run.ensures.command)
 
 pub run_command-requires-clause-threads : goal.run_command-requires-clause-threads
 run_command-requires-clause-threads g c κs within =
-    has_threads (codes "run") c.args.words.now c.in-Ok-Run.config (rw c.in-Ok-Run.field-0-is at c.in-Ok-Run.ensures.command)
+    has_threads order.Run c.args.words.now c.in-Ok-Run.config (rw c.in-Ok-Run.field-0-is at c.in-Ok-Run.ensures.command)
 
 pub run_command-requires-clause-askers : goal.run_command-requires-clause-askers
 run_command-requires-clause-askers g c κs within =
-    has_no_askers (codes "run") c.args.words.now c.in-Ok-Run.config (rw c.in-Ok-Run.field-0-is at c.in-Ok-Run.ensures.command)
+    has_no_askers c.args.words.now c.in-Ok-Run.config (rw c.in-Ok-Run.field-0-is at c.in-Ok-Run.ensures.command)
 
 pub run_command-requires-clause-hands : goal.run_command-requires-clause-hands
 run_command-requires-clause-hands g c κs within =
-    let most = has_threads (codes "run") c.args.words.now c.in-Ok-Run.config (rw c.in-Ok-Run.field-0-is at c.in-Ok-Run.ensures.command) in
+    let most = has_threads order.Run c.args.words.now c.in-Ok-Run.config (rw c.in-Ok-Run.field-0-is at c.in-Ok-Run.ensures.command) in
     (omega (arith, most.1, c.requires.hands.0), c.requires.hands.1)
 
 pub returns-in-Ok-Run-clause-reports : goal.returns-in-Ok-Run-clause-reports
@@ -54,11 +54,11 @@ returns-in-Err-clause-usage g c place =
 
 pub replay_command-requires-clause-limit : goal.replay_command-requires-clause-limit
 replay_command-requires-clause-limit g c =
-    has_limit (codes "replay") c.args.words.now c.in-Ok-Replay.config (rw c.in-Ok-Replay.field-0-is at c.in-Ok-Replay.ensures.command)
+    has_limit order.Replay c.args.words.now c.in-Ok-Replay.config (rw c.in-Ok-Replay.field-0-is at c.in-Ok-Replay.ensures.command)
 
 pub replay_command-requires-clause-askers : goal.replay_command-requires-clause-askers
 replay_command-requires-clause-askers g c =
-    has_no_askers (codes "replay") c.args.words.now c.in-Ok-Replay.config (rw c.in-Ok-Replay.field-0-is at c.in-Ok-Replay.ensures.command)
+    has_few_askers c.args.words.now c.in-Ok-Replay.config (rw c.in-Ok-Replay.field-0-is at c.in-Ok-Replay.ensures.command)
 
 pub returns-in-Ok-Replay-clause-hands : goal.returns-in-Ok-Replay-clause-hands
 returns-in-Ok-Replay-clause-hands g c = λ command means.
