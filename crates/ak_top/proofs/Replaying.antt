@@ -139,7 +139,7 @@ departs_placed program config record_bytes first history (departure.Stray place 
 departs_placed program config record_bytes first history (departure.Short asked) is meets = tt
 
 -- the script of a program that serves the askers
-pub is_serving : (askers : ℕ) (bytes : List ℕ) (program : NumProgram) → IsProgramOf bytes program → ServesAskers program askers
+abbrev pub is_serving : (askers : ℕ) (bytes : List ℕ) (program : NumProgram) → IsProgramOf bytes program → ServesAskers program askers
     → IsServing askers bytes
 is_serving askers bytes program is serves = record {
   script = is.script;

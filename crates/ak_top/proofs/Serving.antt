@@ -14,7 +14,7 @@ use Rattle.ak_top.specs.Stops.{IsNoProgram, IsNoProgramWith, IsProgramOf, IsTheR
 
 -- a program with the procedure serves so many askers, and so does any where there are none
 pub some_serves : (program : NumProgram) (askers ask : ℕ) → askers ≤ 16 → program.ask ≡ Some ask → ServesAskers program askers
-some_serves program askers ask few there = record { few = few; served = inr (subst (λ (o : Option ℕ). IsSome o) (sym there) tt) }
+some_serves program askers ask few there = record { few = few; served = inr (subst (λ (o : Option ℕ). IsSome o) (sym there) refl) }
 
 pub none_serves : (program : NumProgram) (askers : ℕ) → (1 ≤ askers → ⊥) → ServesAskers program askers
 none_serves program askers none = let zero : askers ≡ 0 = omega (arith, none) in record { few = omega (arith, zero); served = inl zero }
@@ -42,7 +42,9 @@ lacks_and_serves program askers some none serves = by serves.served
   where
     by : (askers ≡ 0) ⊎ IsSome program.ask → ⊥
     by (inl zero) = omega (arith, some, zero)
-    by (inr there) = subst (λ (o : Option ℕ). IsSome o) none there
+    by (inr there) =
+        let wrong : IsSome {T = ℕ} None = subst (λ (o : Option ℕ). IsSome o) none there
+        in absurd (cc)
 
 -- the program of the script has its procedure
 its_ask : (bytes : List ℕ) (program : NumProgram) (script : List Proc) → IsProgramOf bytes program → IsScript bytes script

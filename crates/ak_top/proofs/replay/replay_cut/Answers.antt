@@ -1,7 +1,9 @@
-use Rattle.ak_top.specs.Replays.{GivesCut}
+use Rattle.std.proofs.Common.{List, sym, subst}
+use Rattle.ak_history.specs.declared.event.Event.{Event}
+use Rattle.ak_top.specs.Replays.{GivesCut, RunsOver}
 use Rattle.ak_meets.specs.Meets.{Yes}
 use Rattle.ak_rerun.specs.Reruns.{meeting_of}
-use Rattle.ak_top.proofs.Replaying.{cut_speaks, stop_caused, stop_stops, stop_tells, fault_tells, meeting_tells, departure_tells, departs_placed}
+use Rattle.ak_top.proofs.Replaying.{cut_speaks, stop_caused, stop_stops, stop_tells, fault_tells, meeting_tells, departure_tells, departure_caused, departs_placed, do_meet, runs_over}
 use Rattle.ak_top.proofs.replay.replay_cut.Goals as goal
 
 pub returns-in-Err-clause-caused : goal.returns-in-Err-clause-caused
@@ -22,6 +24,20 @@ pub departed-requires : goal.departed-requires
 departed-requires c =
     departs_placed c.in-Ok.program c.args.config c.args.record_bytes.now c.args.first c.in-Ok-read_record.history c.in-Err-Departs.departure
     c.in-Ok-read_record.ensures.right (rw c.in-Err-Departs.field-0-is at c.in-Err-Departs.ensures.departs)
+
+pub returns-in-Ok-rerun-clause-ran : goal.returns-in-Ok-rerun-clause-ran
+returns-in-Ok-rerun-clause-ran c =
+    let ran = c.in-Ok-rerun.ensures.ran
+    in subst (λ (h : List Event). RunsOver c.args.config c.args.script.now c.args.record_bytes.now c.args.first c.in-Ok-rerun.again.trace h) (sym ran.1)
+    (runs_over c.args.config c.args.script.now c.args.record_bytes.now c.args.first c.in-Ok.program c.in-Ok-rerun.again.trace c.in-Ok-read_record.history
+    c.in-Ok.ensures.program c.in-Ok.ensures.serves c.in-Ok-read_record.ensures.right ran.0)
+
+pub returns-in-Err-Departs-clause-caused : goal.returns-in-Err-Departs-clause-caused
+returns-in-Err-Departs-clause-caused c =
+    rw c.departed.ensures (departure_caused c.args.config c.args.script.now c.args.record_bytes.now c.args.first c.in-Err-Departs.departure
+    (do_meet c.args.config c.args.script.now c.args.record_bytes.now c.args.first c.in-Ok.program c.in-Ok-read_record.history
+    (meeting_of c.in-Err-Departs.departure) c.in-Ok.ensures.program c.in-Ok.ensures.serves c.in-Ok-read_record.ensures.right
+    (rw c.in-Err-Departs.field-0-is at c.in-Err-Departs.ensures.departs)))
 
 pub returns-in-Ok-rerun-clause-tells : goal.returns-in-Ok-rerun-clause-tells
 returns-in-Ok-rerun-clause-tells c =
