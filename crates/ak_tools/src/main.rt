@@ -3,6 +3,8 @@
 
 mod compiling;
 mod status;
+#[cfg(test)]
+mod tests;
 mod tools;
 mod words;
 
