@@ -1,0 +1,4 @@
+pub mod Staying
+pub mod Waiting
+pub mod Fetching
+pub mod Threads
