@@ -107,6 +107,7 @@ module _ (program : NumProgram) (config : Config) (w : Worldly) (asked : List As
           ∙ ap (λ ws. at_close w' asked' ws) (sym ew));
       finished = flow_finished f w'.plain.trace off told;
       idle = λ h. absurd (flow_not_idle f w'.plain.trace off told h);
+      quiet = λ h. absurd (flow_not_idle f w'.plain.trace off told h);
     }
 
   -- one job fewer is left
@@ -127,5 +128,7 @@ limit_over program config w w' asked replies waits s e spent is = record {
       (s.run.machine ∙ limit_closes w asked waits e spent ∙ ap (λ (x : Worldly). at_close x asked waits) (sym is)) s.run.opened (omega arith);
   finished = subst (λ (x : Worldly). IsFinished (status_of x.plain.trace)) (sym is) (jobs_finished w.plain.trace);
   idle =
+      λ h. absurd (not_idle ending.Jobs w.plain.trace (λ k. absurd (cc)) (subst (λ (x : Worldly). EndsIdle x.plain.trace) is h));
+  quiet =
       λ h. absurd (not_idle ending.Jobs w.plain.trace (λ k. absurd (cc)) (subst (λ (x : Worldly). EndsIdle x.plain.trace) is h));
 }

@@ -2,7 +2,7 @@
 use Rattle.std.proofs.Common.{◌≡◌, ◌⊎◌, inl, inr, ℕ, zero, suc, ◌+◌, ◌*◌, ◌<◌, ◌≤◌, List, [], ◌∷◌, ◌++◌, length, map, drop, Bool, true, false, not, cond, refl, ap, sym, subst, ◌∙◌, arith, Option, Some, None}
 use Rattle.std.specs.Prelude.{ℤ, ◌-◌, IsSome, find, count_by}
 use Rattle.std.specs.List.{list_any, slice_get}
-use Rattle.std.proofs.lemmas.Bool.{cases_lt}
+use Rattle.std.proofs.lemmas.Bool.{cases_lt, eqb-true}
 use Rattle.std.proofs.lemmas.List.{length-map}
 use Rattle.std.proofs.lemmas.List.Sums.{fold-append}
 use Rattle.std.proofs.Math.Numerals.{suc-eq-add-one}
@@ -43,7 +43,7 @@ use Rattle.ak_exec.proofs.Asking.{open_same}
 use Rattle.ak_cycle.specs.Runs.{EndsIdle, WantsNext}
 use Rattle.ak_cycle.specs.Turns.{at_drain, at_close, served_with, IsAt, IsServed, IsOver, IsFinished, has_waited, undrained_from, drains_left, may_come, rounds_left, HasGained, MayBeServed, AreNext, ending_of, arrived_to}
 use Rattle.ak_cycle.proofs.Asked.{served_as, all_come, waits_more, none_come, may_be_served, are_next}
-use Rattle.ak_cycle.proofs.Turns.{cycle_goes, end_closes, wait_goes, ends_well, goes_well, idle_finished, stuck_finished, flow_finished, flow_not_idle, not_idle, served_asks, at_drain_asks}
+use Rattle.ak_cycle.proofs.Turns.{cycle_goes, end_closes, wait_goes, ends_well, ends_quiet, goes_well, idle_finished, stuck_finished, flow_finished, flow_not_idle, not_idle, served_asks, at_drain_asks}
 use Rattle.ak_cycle.proofs.Under.{wants_next, under_way, drain_serves, drain_ends, drain_stops, drained_now}
 
 -- ---- the works of a drain, one after another
@@ -204,6 +204,7 @@ module _ (program : NumProgram) (config : Config) (w w' : Worldly) (asked asked'
     run = drain_ends program config w w' asked asked' replies replies' waits waits' arrived at.run ea er ew here f s e off is;
     finished = subst (λ (x : Worldly). IsFinished (status_of x.plain.trace)) (sym is) (flow_finished f s.trace off told);
     idle = λ h. absurd (flow_not_idle f s.trace off told (subst (λ (x : Worldly). EndsIdle x.plain.trace) is h));
+    quiet = λ h. absurd (flow_not_idle f s.trace off told (subst (λ (x : Worldly). EndsIdle x.plain.trace) is h));
   }
 
   -- there was no memory for what the works that arrived did, or for the requests behind them
@@ -345,6 +346,9 @@ module _ (program : NumProgram) (config : Config) (w w' : Worldly) (asked : List
         (s.run.machine ∙ end_closes w why asked waits e more ends ∙ ap (λ (x : Worldly). at_close x asked waits) (sym is)) s.run.opened (omega arith);
     finished = subst (λ (x : Worldly). IsFinished (status_of x.plain.trace)) (sym is) (end_finished (ends_well w.config.threads w.plain why ends));
     idle = λ h. none_is_out (ends_well w.config.threads w.plain why ends) (subst (λ (x : Worldly). EndsIdle x.plain.trace) is h);
+    quiet =
+        λ h. sym (as_many_wait config.askers asked replies w.plain s.in_step)
+        ∙ (eqb-true (count_by is_unanswered w.plain.requests) w.plain.left (ends_quiet w.config.threads w.plain why ends) ∙ s.in_step.left);
   }
     where
       end_finished : ((why ≡ ending.Idle) × (is_empty_list w.plain.works ≡ true)) ⊎ (why ≡ ending.Stuck)

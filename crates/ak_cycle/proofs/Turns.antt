@@ -212,6 +212,15 @@ ends_well threads s why e = by (is_quiet s) (is_empty_list s.works) (is_stuck th
     by true false true h k = let same : why ≡ ending.Stuck = cc in inr same
     by true false false h k = absurd (cc)
 
+-- and in either case the outside is quiet
+pub ends_quiet : (threads : ℕ) (s : State) (why : Ending) → ending_of threads s ≡ Some why → is_quiet s ≡ true
+ends_quiet threads s why e = by (is_quiet s) e
+  where
+    by : (quiet : Bool) → cond (not quiet) None (cond (is_empty_list s.works) (Some ending.Idle) (cond (is_stuck threads s) (Some ending.Stuck) None)) ≡ Some why
+        → quiet ≡ true
+    by true k = refl
+    by false k = absurd (cc)
+
 -- and goes on where a request or a work may come
 pub goes_well : (threads : ℕ) (s : State) → ending_of threads s ≡ None
     → (is_quiet s ≡ false) ⊎ ((is_empty_list s.works ≡ false) × (is_stuck threads s ≡ false))

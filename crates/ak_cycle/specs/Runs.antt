@@ -3,6 +3,7 @@ use Rattle.std.specs.Prelude.{ℕ, ◌+◌, List, [], ◌∷◌, ◌++◌, ◌�
 use Rattle.ak_labor.specs.declared.ask.Ask.{Ask}
 use Rattle.ak_labor.specs.declared.ask.Ask.TheVariants as ask
 use Rattle.ak_labor.specs.Calls.{Reply, IsOpen}
+use Rattle.ak_labor.specs.Waits.{unanswered, left_after}
 use Rattle.ak_trace.specs.declared.entry.Entry.{Entry}
 use Rattle.ak_trace.specs.declared.entry.Entry.TheVariants as entry
 use Rattle.ak_trace.specs.declared.entry.Ending.TheVariants as ending
@@ -45,3 +46,7 @@ EndsClosed asked = (before : List Ask) × (asked ≡ before ++ ask.Close ∷ [])
 -- the trace ends idle
 abbrev pub EndsIdle : List Entry → Type 0
 EndsIdle trace = (before : List Entry) × (trace ≡ before ++ entry.End ending.Idle ∷ [])
+
+-- the outside is quiet: as many requests have no answer as askers are left
+abbrev pub IsQuiet : ℕ → List Ask → List Reply → Type 0
+IsQuiet askers asked replies = length (unanswered asked replies) ≡ left_after askers replies

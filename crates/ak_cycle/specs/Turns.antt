@@ -23,7 +23,7 @@ use Rattle.ak_machine.specs.Status.{Stat, Well, ByError, AtJobLimit, Stuck, Unfi
 use Rattle.ak_program.specs.Programs.{NumProgram}
 use Rattle.ak_ledger.specs.Outside.{IsInStep}
 use Rattle.ak_exec.specs.Worlds.{Worldly, ServesAskers, first_state}
-use Rattle.ak_cycle.specs.Runs.{EndsIdle}
+use Rattle.ak_cycle.specs.Runs.{EndsIdle, IsQuiet}
 
 -- a world whose first cycle has begun
 abbrev pub first_world : NumProgram → Config → Worldly
@@ -75,11 +75,13 @@ pub record IsServed (program : NumProgram) (config : Config) (w : Worldly) (aske
   pub drained : list_any is_drained replies ≡ true
   pub one_each : length (unanswered asked replies) ≤ left_after config.askers replies
 
--- the run has its end, and is to be closed; where it ends idle, a reply has brought each work that was handed in
+-- the run has its end, and is to be closed; where it ends idle, a reply has brought each work that was handed in, and the
+-- outside is quiet
 pub record IsOver (program : NumProgram) (config : Config) (w : Worldly) (asked : List Ask) (replies : List Reply) (waits : List ℕ) : Type 0 where
   pub run : IsUnderWay program config w asked replies (at_close w asked waits)
   pub finished : IsFinished (status_of w.plain.trace)
   pub idle : EndsIdle w.plain.trace → outstanding asked replies ≡ []
+  pub quiet : EndsIdle w.plain.trace → IsQuiet config.askers asked replies
 
 -- the next of these, by whether the run goes on
 abbrev pub GoesOn : Bool → NumProgram → Config → Worldly → List Ask → List Reply → List ℕ → Type 0

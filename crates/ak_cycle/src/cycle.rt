@@ -8,7 +8,7 @@ ghost use Rattle.ak_machine.specs.Status.{status_of};
 ghost use Rattle.ak_exec.specs.Asks.{IsNoMemory};
 ghost use Rattle.ak_exec.specs.Worlds.{ServesAskers};
 ghost use Rattle.ak_laws.specs.Laws.{ObeysLaws};
-ghost use Rattle.ak_cycle.specs.Runs.{HasEndedWith, WantsLast, WantsNext, EndsIdle, EndsClosed};
+ghost use Rattle.ak_cycle.specs.Runs.{HasEndedWith, WantsLast, WantsNext, EndsIdle, EndsClosed, IsQuiet};
 ghost use Rattle.ak_cycle.specs.Turns.{IsAt, GoesOn, IsFinished, jobs_left, first_world};
 
 use crate::round::reach_pick;
@@ -29,7 +29,8 @@ use std::alloc::Global;
 ///
 /// On `Ok` the trace is the machine's for the port's replies, the machine has ended, and what the port was asked is
 /// what the machine asks, with its waits; the last call is the close. Where the trace ends idle, a reply has brought
-/// each work that was handed in. The trace obeys the laws of traces that are proved.
+/// each work that was handed in, and as many requests have no answer as askers are left. The trace obeys the laws of traces
+/// that are proved.
 ///
 /// # Errors
 ///
@@ -56,6 +57,8 @@ pub fn run<P: Port>(
     ensures finished { IfOk result (λ trace. IsFinished (status_of trace)) }
     ensures idle { IfOk result (λ trace.
         EndsIdle trace → outstanding (P.asked port.new) (P.replies port.new) ≡ []) }
+    ensures quiet { IfOk result (λ trace.
+        EndsIdle trace → IsQuiet config.askers (P.asked port.new) (P.replies port.new)) }
     ensures laws { IfOk result (λ trace. ObeysLaws config.limit trace) }
     ensures closed { OnOk result (EndsClosed (P.asked port.new)) }
     ensures threads { P.threads port.new ≡ P.threads port.old }
@@ -98,6 +101,8 @@ fn drive<P: Port>(alloc: Global, world: &mut World, port: &mut P) -> Result<(), 
     ensures finished { OnOk result (IsFinished (status_of world.new.plain.trace)) }
     ensures idle { OnOk result (EndsIdle world.new.plain.trace
         → outstanding (P.asked port.new) (P.replies port.new) ≡ []) }
+    ensures quiet { OnOk result (EndsIdle world.new.plain.trace
+        → IsQuiet world.old.config.askers (P.asked port.new) (P.replies port.new)) }
     ensures closed { OnOk result (EndsClosed (P.asked port.new)) }
     ensures threads { P.threads port.new ≡ P.threads port.old }
     ensures askers { P.askers port.new ≡ P.askers port.old }
