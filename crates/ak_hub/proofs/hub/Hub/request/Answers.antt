@@ -9,7 +9,7 @@ use Rattle.ak_hub.proofs.hub.Hub.request.Goals as goal
 
 pub returns-clause-ok : goal.returns-clause-ok
 returns-clause-ok g c =
-    let found = ap (λ s. s.pool.history) c.value_mut.ensures.value ∙ c.enter-held.ensures.pool.1 in
+    let found = ap (λ p. p.history) (c.deref_mut.ensures.value ∙ ap (λ s. s.pool.value) c.value_mut.ensures.value) ∙ c.enter-held.ensures.pool.1 in
     let was = c.enter-held.result.was in
     ok_each c.request-answer.result _ _ _ c.request-answer.ensures.number c.request-answer.ensures.ok (λ q number goes. (
       was,
@@ -21,7 +21,7 @@ returns-clause-ok g c =
 
 pub returns-clause-err : goal.returns-clause-err
 returns-clause-err g c =
-    let found = ap (λ s. s.pool.history) c.value_mut.ensures.value ∙ c.enter-held.ensures.pool.1 in
+    let found = ap (λ p. p.history) (c.deref_mut.ensures.value ∙ ap (λ s. s.pool.value) c.value_mut.ensures.value) ∙ c.enter-held.ensures.pool.1 in
     let was = c.enter-held.result.was in
     err_each c.request-answer.result _ _ _ c.request-answer.ensures.err c.request-answer.ensures.stays (λ why refuses stays. (
       was,

@@ -5,7 +5,7 @@ use Rattle.ak_hub.proofs.hub.Hub.told_now.Goals as goal
 
 pub returns-clause-told : goal.returns-clause-told
 returns-clause-told g c =
-    let found = ap (λ s. s.pool.history) c.value.ensures ∙ c.enter-held.ensures.pool.1 in
+    let found = ap (λ p. p.history) (c.deref.ensures ∙ ap (λ s. s.pool.value) c.value.ensures) ∙ c.enter-held.ensures.pool.1 in
     let was = c.enter-held.result.was in
     some_map c.told-told.result _ _ c.told-told.ensures (λ answer tells. (
       was,
